@@ -1,0 +1,9 @@
+pub mod Refusals
+pub mod Bytes
+pub mod Space
+pub mod Meaning
+pub mod Nmp
+pub mod Endpoint
+pub mod Tunnel
+pub mod Replies
+pub mod RoundTrips
