@@ -1,22 +1,17 @@
 -- What is written reads back as itself.
-use Prim.Native.Nat.{ℕ, _+_, _-_, _*_, _/_, _%_, _^_, _<_, _≤_}
-use mathlib.Core.Path.{_≡_, refl, sym, ap, _∙_}
+use Prim.Native.Nat.{ℕ, _/_, _%_, _^_, _<_}
+use mathlib.Core.Path.{_≡_, ap, _∙_}
 use mathlib.Core.Bool.{Bool}
 use native.Mathlib.Omega.{arith}
 use lib.Dec.{eqb}
-use Rattle.std.specs.declared.result.Result.{Result}
-use Rattle.std.specs.declared.result.Result.the-variants.{Ok}
 use Rattle.health.specs.Words.{bit}
-use Rattle.health.specs.Flags.{named-flags}
-use Rattle.wire.specs.Bytes.{word-reads-back}
 use Rattle.commands.specs.Fields.{digit}
 use Rattle.commands.specs.ControllerPoll.{poll-nmd0, poll-nmd1, poll-in}
-use Rattle.commands.specs.SubsystemData.{SubsystemHealth, status-byte, subsystem-bytes, subsystem-in}
 use Rattle.commands.specs.declared.controller_poll.ControllerHealthPoll.{ControllerHealthPoll}
 use Rattle.commands.proofs.Parts.{digit-le, digit-is}
 
 -- the bit of a word that holds the digit of b
-is-bit : (word k : ℕ) (b : Bool) → word / 2 ^ k % 2 ≡ digit b → bit word k ≡ b
+pub is-bit : (word k : ℕ) (b : Bool) → word / 2 ^ k % 2 ≡ digit b → bit word k ≡ b
 is-bit word k b e = ap (λ d. eqb d 1) e ∙ digit-is b
 
 pub poll-reads-back : (p : ControllerHealthPoll) → p .maxrent < 2 ^ 8 → p .sctlid < 2 ^ 16 → poll-in (poll-nmd0 p) (poll-nmd1 p) ≡ p
@@ -53,34 +48,3 @@ poll-reads-back p h k =
       «clear_changed_flags» = clear-is i;
       selection = record { cwarn = cwarn-is i; spare = spare-is i; pdlu = pdlu-is i; ctemp = ctemp-is i; csts = csts-is i };
     }
-
--- a flags word that has bits 3, 14 and 15 clear is written and read whole
-flags-read-back : (n : ℕ) → n < 2 ^ 14 → n / 2 ^ 3 % 2 ≡ 0 → named-flags (n % 256 + n / 256 % 256 * 256) ≡ n
-flags-read-back n h k = let kept : named-flags n ≡ n = omega arith in ap named-flags (word-reads-back n (omega arith)) ∙ kept
-
-pub subsystem-reads-back : (s : SubsystemHealth) → s .critical-warning < 2 ^ 8 → s .composite < 2 ^ 14 → s .composite / 2 ^ 3 % 2 ≡ 0
-    → subsystem-in (subsystem-bytes s) ≡ Ok s
-subsystem-reads-back s w h k =
-    let sanitize = digit-le (s .sanitize-failed) in
-    let functional = digit-le (s .functional) in
-    let reset = digit-le (s .reset-not-required) in
-    let port0 = digit-le (s .port0-link-up) in
-    let port1 = digit-le (s .port1-link-up) in
-    let sanitize-is = is-bit (status-byte s) 6 (s .sanitize-failed) (omega arith) in
-    let functional-is = is-bit (status-byte s) 5 (s .functional) (omega arith) in
-    let reset-is = is-bit (status-byte s) 4 (s .reset-not-required) (omega arith) in
-    let port0-is = is-bit (status-byte s) 3 (s .port0-link-up) (omega arith) in
-    let port1-is = is-bit (status-byte s) 2 (s .port1-link-up) (omega arith) in
-    let warning-is : 255 - (255 - s .critical-warning) ≡ s .critical-warning = omega arith in
-    let composite-is = flags-read-back (s .composite) h k in
-    λ i. Ok (record {
-      sanitize-failed = sanitize-is i;
-      functional = functional-is i;
-      reset-not-required = reset-is i;
-      port0-link-up = port0-is i;
-      port1-link-up = port1-is i;
-      critical-warning = warning-is i;
-      temperature-code = s .temperature-code;
-      percentage-used = s .percentage-used;
-      composite = composite-is i;
-    })

@@ -1,5 +1,6 @@
 ghost use mathlib.Core.Path.{_≡_};
 ghost use Rattle.std.specs.declared.result.Result.the-variants.{Ok};
+ghost use Rattle.health.specs.Words.{bit};
 ghost use Rattle.commands.specs.SubsystemData.{subsystem-of, status-byte, subsystem-bytes, subsystem-in, subsystem-told};
 use crate::dword::is_set;
 use health::ChangedFlags;
@@ -23,7 +24,12 @@ pub struct SubsystemHealthData {
 
 impl SubsystemHealthData {
     fn status_byte(self) -> u8
-        ensures { λ r. ⌜ r ≡ status-byte (subsystem-of self) ⌝ }
+        ensures value { λ r. ⌜ r ≡ status-byte (subsystem-of self) ⌝ }
+        ensures sanitize_failed { λ r. ⌜ bit r 6 ≡ self .«sanitize_failed» ⌝ }
+        ensures functional { λ r. ⌜ bit r 5 ≡ self .functional ⌝ }
+        ensures reset_not_required { λ r. ⌜ bit r 4 ≡ self .«reset_not_required» ⌝ }
+        ensures port0_link_up { λ r. ⌜ bit r 3 ≡ self .«port0_link_up» ⌝ }
+        ensures port1_link_up { λ r. ⌜ bit r 2 ≡ self .«port1_link_up» ⌝ }
     {
         u8::from(self.port1_link_up) << 2
             | u8::from(self.port0_link_up) << 3

@@ -4,6 +4,9 @@ ghost use lib.Bits.{bitOr};
 ghost use Rattle.health.specs.Words.{bit, without};
 ghost use Rattle.health.specs.Flags.{flag-number, named-flags};
 use crate::flag::ChangedFlag;
+use crate::word::either;
+use crate::word::lacking;
+use crate::word::named;
 
 // A word of changed flags: a controller's, or a Responder's Composite Controller Status Flags. Bits 3, 14 and 15 are never set.
 #[derive(Clone, Copy)]
@@ -25,9 +28,7 @@ impl ChangedFlags {
     pub fn from_bits(bits: u16) -> Self
         ensures { λ r. ⌜ r .bits ≡ named-flags bits ⌝ }
     {
-        ChangedFlags {
-            bits: bits & 0x3ff7,
-        }
+        ChangedFlags { bits: named(bits) }
     }
 
     pub fn bits(self) -> u16
@@ -47,7 +48,7 @@ impl ChangedFlags {
         ensures { λ r. ⌜ r .bits ≡ bitOr (self .bits) (other .bits) ⌝ }
     {
         ChangedFlags {
-            bits: self.bits | other.bits,
+            bits: either(self.bits, other.bits),
         }
     }
 
@@ -56,7 +57,7 @@ impl ChangedFlags {
         ensures { λ r. ⌜ r .bits ≡ without (self .bits) (other .bits) ⌝ }
     {
         ChangedFlags {
-            bits: self.bits & !other.bits,
+            bits: lacking(self.bits, other.bits),
         }
     }
 }

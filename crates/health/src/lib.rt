@@ -4,6 +4,7 @@ mod flag;
 mod flags;
 mod status;
 mod status_bit;
+mod word;
 
 pub use display::ChangedFlagsDisplay;
 pub use display::ControllerStatusDisplay;

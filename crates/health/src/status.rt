@@ -16,7 +16,7 @@ impl ControllerStatus {
     pub fn from_bits(bits: u16) -> Self
         ensures { λ r. ⌜ r .bits ≡ bits % 2 ^ 9 ⌝ }
     {
-        ControllerStatus { bits: bits & 0x1ff }
+        ControllerStatus { bits: bits % 0x200 }
     }
 
     pub fn bits(self) -> u16

@@ -1,7 +1,12 @@
-use mathlib.Core.Path.{_≡_, refl, _∙_}
-use Prim.Native.Nat.{_+_, _*_, _%_, _^_}
+use mathlib.Core.Path.{_≡_, refl, ap, _∙_}
+use mathlib.Core.Bool.{Bool}
+use Prim.Native.Nat.{ℕ, _+_, _*_, _/_, _%_, _^_}
 use native.Mathlib.Omega.{arith}
+use Rattle.health.specs.Words.{bit}
+use Rattle.commands.specs.Fields.{digit}
+use Rattle.commands.specs.SubsystemData.{subsystem-of, status-byte}
 use Rattle.commands.proofs.Parts.{digit-le, join}
+use Rattle.commands.proofs.ReadBack.{is-bit}
 use Rattle.commands.proofs.subsystem_data.SubsystemHealthData.status_byte.Needs as need
 
 pub returns : need.returns
@@ -21,4 +26,14 @@ returns c =
     let a = join 8 3 port0 (port1 * 2 ^ 2) first (omega arith) (omega arith) in
     let b = join 8 4 reset (port0 * 2 ^ 3 + port1 * 2 ^ 2) a (omega arith) (omega arith) in
     let d = join 8 5 functional (reset * 2 ^ 4 + (port0 * 2 ^ 3 + port1 * 2 ^ 2)) b (omega arith) (omega arith) in
-    join 8 6 sanitize (functional * 2 ^ 5 + (reset * 2 ^ 4 + (port0 * 2 ^ 3 + port1 * 2 ^ 2))) d (omega arith) (omega arith) ∙ omega arith
+    let byte = status-byte (subsystem-of h) in
+    let is : _≡_ {A = ℕ} _ byte = join 8 6 sanitize (functional * 2 ^ 5 + (reset * 2 ^ 4 + (port0 * 2 ^ 3 + port1 * 2 ^ 2))) d (omega arith) (omega arith) ∙ omega arith in
+    let reads = λ (k : ℕ) (b : Bool) (e : byte / 2 ^ k % 2 ≡ digit b). ap (λ w. bit w k) is ∙ is-bit byte k b e in
+    record {
+      value = is;
+      sanitize-failed = reads 6 (h .«sanitize_failed») (omega arith);
+      functional = reads 5 (h .functional) (omega arith);
+      reset-not-required = reads 4 (h .«reset_not_required») (omega arith);
+      port0-link-up = reads 3 (h .«port0_link_up») (omega arith);
+      port1-link-up = reads 2 (h .«port1_link_up») (omega arith);
+    }

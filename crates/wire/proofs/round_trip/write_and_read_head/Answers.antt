@@ -4,7 +4,7 @@ use Rattle.std.specs.declared.result.Result.the-variants.{Ok}
 use Rattle.wire.specs.Refusals.{in-numbers, space-too-short}
 use Rattle.wire.specs.Space.{length-written}
 use Rattle.wire.proofs.Spaces.{written-front, where-long}
-use Rattle.wire.proofs.round_trip.head_round_trip.Needs as need
+use Rattle.wire.proofs.round_trip.write_and_read_head.Needs as need
 
 pub returns : need.returns
 returns g c =
