@@ -1,9 +1,9 @@
--- One bit of `&` and `|`, a complement, and the mask of the flags.
+-- One bit of `&`, `|` and `^`, a complement, and the mask of the flags.
 use mathlib.Core.Path.{_≡_, refl, sym, ap, _∙_}
 use Prim.Native.Nat.{ℕ, zero, suc, _+_, _-_, _*_, _/_, _%_, _^_, _<_, _≤_, min, max}
 use native.Mathlib.Nat.{pow-suc}
 use native.Mathlib.Omega.{arith}
-use lib.Bits.{bitAnd, bitOr, and-step, or-step, and-shr, or-shr, and-block, and-mask}
+use lib.Bits.{bitAnd, bitOr, bitXor, and-step, or-step, xor-add-and, and-shr, or-shr, xor-shr, and-block, and-mask}
 use Rattle.std.proofs.shelf.Bits.{pow-pos, shr-split}
 use Rattle.health.specs.Flags.{named-flags}
 
@@ -18,6 +18,12 @@ and-bit k a b = ap (λ n. n % 2) (and-shr a b k) ∙ low-and (a / 2 ^ k) (b / 2 
 
 pub or-bit : (k a b : ℕ) → bitOr a b / 2 ^ k % 2 ≡ max (a / 2 ^ k % 2) (b / 2 ^ k % 2)
 or-bit k a b = ap (λ n. n % 2) (or-shr a b k) ∙ low-or (a / 2 ^ k) (b / 2 ^ k)
+
+low-xor : (a b : ℕ) → bitXor a b % 2 ≡ (a % 2 + b % 2) % 2
+low-xor a b = omega (arith, xor-add-and a b)
+
+pub xor-bit : (k a b : ℕ) → bitXor a b / 2 ^ k % 2 ≡ (a / 2 ^ k % 2 + b / 2 ^ k % 2) % 2
+xor-bit k a b = ap (λ n. n % 2) (xor-shr a b k) ∙ low-xor (a / 2 ^ k) (b / 2 ^ k)
 
 -- a word of k bits is what it shares with another and what it shares with the other's complement
 pub and-complement : (k a b : ℕ) → a < 2 ^ k → b < 2 ^ k → bitAnd a b + bitAnd a (2 ^ k - 1 - b) ≡ a

@@ -1,3 +1,5 @@
 pub mod Words
 pub mod Flags
 pub mod Status
+pub mod Values
+pub mod Rows

@@ -1,0 +1,3 @@
+pub mod FlagRule
+pub mod FlagParts
+pub mod Temperature
