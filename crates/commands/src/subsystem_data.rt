@@ -24,12 +24,12 @@ pub struct SubsystemHealthData {
 
 impl SubsystemHealthData {
     fn status_byte(self) -> u8
-        ensures value { λ r. ⌜ r ≡ status-byte (subsystem-of self) ⌝ }
-        ensures sanitize_failed { λ r. ⌜ bit r 6 ≡ self .«sanitize_failed» ⌝ }
-        ensures functional { λ r. ⌜ bit r 5 ≡ self .functional ⌝ }
-        ensures reset_not_required { λ r. ⌜ bit r 4 ≡ self .«reset_not_required» ⌝ }
-        ensures port0_link_up { λ r. ⌜ bit r 3 ≡ self .«port0_link_up» ⌝ }
-        ensures port1_link_up { λ r. ⌜ bit r 2 ≡ self .«port1_link_up» ⌝ }
+        ensures is_the_status_byte { λ r. ⌜ r ≡ status-byte (subsystem-of self) ⌝ }
+        ensures bit_6_is_sanitize_failed { λ r. ⌜ bit r 6 ≡ self .«sanitize_failed» ⌝ }
+        ensures bit_5_is_functional { λ r. ⌜ bit r 5 ≡ self .functional ⌝ }
+        ensures bit_4_is_reset_not_required { λ r. ⌜ bit r 4 ≡ self .«reset_not_required» ⌝ }
+        ensures bit_3_is_port0_link_up { λ r. ⌜ bit r 3 ≡ self .«port0_link_up» ⌝ }
+        ensures bit_2_is_port1_link_up { λ r. ⌜ bit r 2 ≡ self .«port1_link_up» ⌝ }
     {
         u8::from(self.port1_link_up) << 2
             | u8::from(self.port0_link_up) << 3

@@ -24,7 +24,7 @@ pub enum ChangedFlag {
 impl ChangedFlag {
     // The bit of a flags word that holds this flag.
     pub fn number(self) -> u16
-        ensures named { λ r. ⌜ r ≡ flag-number self ⌝ }
+        ensures is_the_bit_of_the_flag { λ r. ⌜ r ≡ flag-number self ⌝ }
         ensures within_the_word { λ r. ⌜ r < 16 ⌝ }
     {
         self as u16

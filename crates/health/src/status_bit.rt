@@ -17,7 +17,7 @@ pub enum StatusBit {
 
 impl StatusBit {
     pub fn number(self) -> u16
-        ensures named { λ r. ⌜ r ≡ status-bit-number self ⌝ }
+        ensures is_the_bit_of_the_word { λ r. ⌜ r ≡ status-bit-number self ⌝ }
         ensures within_the_word { λ r. ⌜ r < 16 ⌝ }
     {
         self as u16

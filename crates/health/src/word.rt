@@ -15,7 +15,7 @@ pub(crate) fn named(word: u16) -> u16
 
 // The bits that either word has.
 pub(crate) fn either(word: u16, other: u16) -> u16
-    ensures value { λ r. ⌜ r ≡ bitOr word other ⌝ }
+    ensures has_the_bits_of_either { λ r. ⌜ r ≡ bitOr word other ⌝ }
     ensures bits_14_and_15_stay_clear { λ r. ⌜ (word < 2 ^ 14 → other < 2 ^ 14 → r < 2 ^ 14) ⌝ }
     ensures bit_3_stays_clear { λ r. ⌜ (word / 2 ^ 3 % 2 ≡ 0 → other / 2 ^ 3 % 2 ≡ 0 → r / 2 ^ 3 % 2 ≡ 0) ⌝ }
 {
@@ -24,7 +24,7 @@ pub(crate) fn either(word: u16, other: u16) -> u16
 
 // The bits of the first word that the other lacks.
 pub(crate) fn lacking(word: u16, other: u16) -> u16
-    ensures value { λ r. ⌜ r ≡ without word other ⌝ }
+    ensures has_the_bits_that_the_other_lacks { λ r. ⌜ r ≡ without word other ⌝ }
     ensures bits_14_and_15_stay_clear { λ r. ⌜ (word < 2 ^ 14 → r < 2 ^ 14) ⌝ }
     ensures bit_3_stays_clear { λ r. ⌜ (word / 2 ^ 3 % 2 ≡ 0 → r / 2 ^ 3 % 2 ≡ 0) ⌝ }
 {
@@ -40,7 +40,7 @@ pub(crate) fn event_bits(status: u16) -> u16
 
 // The status events that either word has.
 pub(crate) fn either_event(word: u16, other: u16) -> u16
-    ensures value { λ r. ⌜ r ≡ bitOr word other ⌝ }
+    ensures has_the_events_of_either { λ r. ⌜ r ≡ bitOr word other ⌝ }
     ensures bits_15_to_9_stay_clear { λ r. ⌜ (word < 2 ^ 9 → other < 2 ^ 9 → r < 2 ^ 9) ⌝ }
     ensures bits_5_to_0_stay_clear { λ r. ⌜ (word % 2 ^ 6 ≡ 0 → other % 2 ^ 6 ≡ 0 → r % 2 ^ 6 ≡ 0) ⌝ }
 {

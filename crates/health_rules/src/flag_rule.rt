@@ -17,7 +17,7 @@ use health::Report;
 
 // All parts of the flag rule in one word.
 fn gained_word(old: Health, new: Report) -> u16
-    ensures value { λ r. ⌜ r ≡ gained (health-of old) new ⌝ }
+    ensures is_the_word_of_the_table { λ r. ⌜ r ≡ gained (health-of old) new ⌝ }
     ensures names_flags_only { λ r. ⌜ named-flags r ≡ r ⌝ }
 {
     let differing = differing_levels(old.levels, new.status);

@@ -13,23 +13,23 @@ use Rattle.std.specs.shelf.Lists.{inserted}
 use Rattle.std.proofs.shelf.Edits.{length-inserted}
 use Rattle.std.proofs.shelf.Lists.{length-map, length-take, length-take-le, take-at}
 use Rattle.std.proofs.shelf.Tests.{lt-ltb, le-ltb, ltb-true, ltb-false}
-use Rattle.register.specs.Orders.{numbers, first-place, is-there}
+use Rattle.table.specs.Orders.{numbers, first-place, is-there}
 use Rattle.register.specs.Controllers.{controller-of, lawful, present, enrolled}
 use Rattle.register.specs.Registers.{RegisterValues, register-over, count-after, enroll-answer, after-enroll}
 use Rattle.register.specs.RegisterRefusals.{climbed, in-numbers}
-use Rattle.register.specs.Tables.{insert-answer, slots-after-insert}
+use Rattle.table.specs.Tables.{insert-answer, slots-after-insert}
 use Rattle.register.specs.declared.controller.Controller.{Controller}
-use Rattle.register.specs.declared.fault.TableFault.{TableFault}
-use Rattle.register.specs.declared.fault.TableFault.the-variants.{Present, Full}
+use Rattle.table.specs.declared.fault.TableFault.{TableFault}
+use Rattle.table.specs.declared.fault.TableFault.the-variants.{Present, Full}
 use Rattle.register.specs.declared.register_fault.RegisterFault.{RegisterFault}
 use Rattle.register.proofs.Lawful.{there-is-present, enrolled-of-values, enrolled-lawful, controller-sound}
-use Rattle.register.proofs.Places.{place-within}
+use Rattle.table.proofs.Places.{place-within}
 
 module _ (x : Controller) (n : ℕ) (slots after : List Controller) where
   -- r and the slots after it are an enrolment of x among the first n slots
   pub record Enrolls (r : Result (Unit {0}) RegisterFault) : Type 0 where
-    pub answer : in-numbers r ≡ enroll-answer (controller-of x) (register-over (length slots) n slots)
-    pub list : register-over (length slots) (count-after r n) after ≡ after-enroll (controller-of x) (register-over (length slots) n slots)
+    pub refused-exactly : in-numbers r ≡ enroll-answer (controller-of x) (register-over (length slots) n slots)
+    pub adds-it-in-its-place : register-over (length slots) (count-after r n) after ≡ after-enroll (controller-of x) (register-over (length slots) n slots)
     pub stays-lawful : T (lawful (map controller-of (take (count-after r n) after)))
     pub stays-within : count-after r n ≤ length slots
     pub unchanged : isOk r ≡ false → after ≡ slots
@@ -54,8 +54,8 @@ module _ (x : Controller) (n : ℕ) (slots after : List Controller) where
     refused-present b e =
         let p : present (x .id) (map controller-of (take n slots)) ≡ true = sym there ∙ b in
         record {
-          answer = simp p;
-          list = ap (register-over (length slots) n) e ∙ simp p;
+          refused-exactly = simp p;
+          adds-it-in-its-place = ap (register-over (length slots) n) e ∙ simp p;
           stays-lawful = same-list e;
           stays-within = within;
           unchanged = λ _. e;
@@ -67,8 +67,8 @@ module _ (x : Controller) (n : ℕ) (slots after : List Controller) where
         let full : ltb (length (map controller-of (take n slots))) (length slots) ≡ false = le-ltb _ _ (omega (arith, in-use)) in
         let same : n ≡ length slots = omega arith in
         record {
-          answer = simp (p, full) (ap (λ k. in-numbers {A = Unit {0}} (Err (climbed (Full k)))) same);
-          list = ap (register-over (length slots) n) e ∙ simp (p, full);
+          refused-exactly = simp (p, full) (ap (λ k. in-numbers {A = Unit {0}} (Err (climbed (Full k)))) same);
+          adds-it-in-its-place = ap (register-over (length slots) n) e ∙ simp (p, full);
           stays-lawful = same-list e;
           stays-within = within;
           unchanged = λ _. e;
@@ -87,8 +87,8 @@ module _ (x : Controller) (n : ℕ) (slots after : List Controller) where
         let values : map controller-of (take (n + 1) after) ≡ enrolled (controller-of x) (map controller-of (take n slots)) =
         ap (map controller-of) front ∙ enrolled-of-values x (take n slots) in
         record {
-          answer = simp (p, room);
-          list = ap {B = RegisterValues} (λ cs. record { capacity = length slots; controllers = cs }) values ∙ simp (p, room);
+          refused-exactly = simp (p, room);
+          adds-it-in-its-place = ap {B = RegisterValues} (λ cs. record { capacity = length slots; controllers = cs }) values ∙ simp (p, room);
           stays-lawful =
               subst (λ cs. T (lawful cs)) (sym values)
               (enrolled-lawful 0 (controller-of x) (map controller-of (take n slots)) t (omega arith) (controller-sound x fits) p);

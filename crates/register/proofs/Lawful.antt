@@ -13,16 +13,16 @@ use Rattle.std.specs.shelf.Lists.{inserted}
 use Rattle.std.specs.shelf.Maps.{nth}
 use Rattle.std.proofs.shelf.Tests.{cases-lt, cases-eq, lt-ltb, le-ltb, le-leb, leb-true, eq-eqb, ne-eqb, or-parts}
 use Rattle.health.specs.Values.{HealthValues, health-of}
-use Rattle.register.specs.Orders.{numbers, first-place, is-there}
+use Rattle.table.specs.Orders.{numbers, first-place, is-there}
 use Rattle.register.specs.Functions.{function-number}
 use Rattle.register.specs.Controllers.{ControllerValues, controller-of, sound, lawful-from, first-from, present, enrolled, with-health, written}
 use Rattle.register.specs.declared.controller.Controller.{Controller}
 use Rattle.register.specs.declared.controller.FunctionType.{FunctionType}
 use Rattle.register.specs.declared.controller.FunctionType.the-variants.{Pci, SriovPhysical, SriovVirtual}
 
-both : (a b : Bool) → T a → T b → T (a && b)
-both true b p q = q
-both false b p q = p
+both-true : (a b : Bool) → T a → T b → T (a && b)
+both-true true b p q = q
+both-true false b p q = p
 
 first-part : (a b : Bool) → T (a && b) → T a
 first-part true b t = tt
@@ -32,8 +32,8 @@ second-part : (a b : Bool) → T (a && b) → T b
 second-part true b t = t
 second-part false b t = absurd t
 
-holds : (b : Bool) → b ≡ true → T b
-holds b e = subst T (sym e) tt
+so-true : (b : Bool) → b ≡ true → T b
+so-true b e = subst T (sym e) tt
 
 is-true : (b : Bool) → T b → b ≡ true
 is-true true t = refl
@@ -88,7 +88,7 @@ module _ (m : ℕ) (c : ControllerValues) (cs : List ControllerValues) (t : T (l
 
 lawful-cons : (m : ℕ) (c : ControllerValues) (cs : List ControllerValues) → m ≤ c .id → T (sound c) → T (lawful-from (c .id + 1) cs)
     → T (lawful-from m (c ∷ cs))
-lawful-cons m c cs h s r = both (leb m (c .id)) (sound c && lawful-from (c .id + 1) cs) (holds (leb m (c .id)) (le-leb m (c .id) h)) (both (sound c) (lawful-from (c .id + 1) cs) s r)
+lawful-cons m c cs h s r = both-true (leb m (c .id)) (sound c && lawful-from (c .id + 1) cs) (so-true (leb m (c .id)) (le-leb m (c .id) h)) (both-true (sound c) (lawful-from (c .id + 1) cs) s r)
 
 -- IDs below the first are absent
 absent-below : (n m : ℕ) (cs : List ControllerValues) → T (lawful-from m cs) → n < m → present n cs ≡ false
@@ -139,8 +139,8 @@ written-lawful m zero h (c ∷ cs) l t =
     let others = second-part (ltb (c .id) (2 ^ 16)) (leb (c .function) 2 && ltb (c .health .levels) (2 ^ 6)) s in
     let function = first-part (leb (c .function) 2) (ltb (c .health .levels) (2 ^ 6)) others in
     lawful-cons m (with-health h c) cs (at-or-above m c cs t)
-    (both (ltb (c .id) (2 ^ 16)) (leb (c .function) 2 && ltb (h .levels) (2 ^ 6)) id
-    (both (leb (c .function) 2) (ltb (h .levels) (2 ^ 6)) function (holds (ltb (h .levels) (2 ^ 6)) (lt-ltb (h .levels) (2 ^ 6) l))))
+    (both-true (ltb (c .id) (2 ^ 16)) (leb (c .function) 2 && ltb (h .levels) (2 ^ 6)) id
+    (both-true (leb (c .function) 2) (ltb (h .levels) (2 ^ 6)) function (so-true (ltb (h .levels) (2 ^ 6)) (lt-ltb (h .levels) (2 ^ 6) l))))
     (rest-lawful m c cs t)
 written-lawful m (suc k) h (c ∷ cs) l t =
     lawful-cons m c (written k h cs) (at-or-above m c cs t) (this-sound m c cs t) (written-lawful (c .id + 1) k h cs l (rest-lawful m c cs t))
@@ -153,9 +153,9 @@ function-small SriovVirtual = tt
 -- every controller of the code is sound
 pub controller-sound : (c : Controller) → c .id < 2 ^ 16 → T (sound (controller-of c))
 controller-sound c h =
-    both (ltb (c .id) (2 ^ 16)) (leb (function-number (c .function)) 2 && ltb (c .health .levels) (2 ^ 6)) (holds (ltb (c .id) (2 ^ 16)) (lt-ltb (c .id) (2 ^ 16) h))
-    (both (leb (function-number (c .function)) 2) (ltb (c .health .levels) (2 ^ 6)) (function-small (c .function))
-    (holds (ltb (c .health .levels) (2 ^ 6)) (lt-ltb (c .health .levels) (2 ^ 6) (c .health .«levels_below_64»))))
+    both-true (ltb (c .id) (2 ^ 16)) (leb (function-number (c .function)) 2 && ltb (c .health .levels) (2 ^ 6)) (so-true (ltb (c .id) (2 ^ 16)) (lt-ltb (c .id) (2 ^ 16) h))
+    (both-true (leb (function-number (c .function)) 2) (ltb (c .health .levels) (2 ^ 6)) (function-small (c .function))
+    (so-true (ltb (c .health .levels) (2 ^ 6)) (lt-ltb (c .health .levels) (2 ^ 6) (c .health .«levels_below_64»))))
 
 pub written-past : (k : ℕ) (h : HealthValues) (cs : List ControllerValues) → length cs ≤ k → written k h cs ≡ cs
 written-past k h [] l = refl

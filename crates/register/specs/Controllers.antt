@@ -5,7 +5,7 @@ use mathlib.Core.Bool.{Bool, true, false, cond, _&&_, _||_}
 use lib.Dec.{eqb, leb, ltb}
 use Rattle.health.specs.Values.{HealthValues, health-of}
 use Rattle.register.specs.Functions.{function-number}
-use Rattle.register.specs.Orders.{numbers, first-place}
+use Rattle.table.specs.Orders.{numbers, first-place}
 use Rattle.register.specs.declared.controller.Controller.{Controller}
 
 pub record ControllerValues : Type 0 where

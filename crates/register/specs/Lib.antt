@@ -1,6 +1,4 @@
-pub mod Orders
 pub mod Functions
-pub mod Tables
 pub mod Controllers
 pub mod RegisterRefusals
 pub mod Registers

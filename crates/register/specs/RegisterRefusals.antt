@@ -3,8 +3,8 @@ use Prim.Native.Nat.{ℕ}
 use Rattle.std.specs.declared.result.Result.{Result}
 use Rattle.std.specs.declared.result.Result.the-variants.{Ok, Err}
 use Rattle.wire.specs.Refusals.{Refusal}
-use Rattle.register.specs.declared.fault.TableFault.{TableFault}
-use Rattle.register.specs.declared.fault.TableFault.the-variants as table
+use Rattle.table.specs.declared.fault.TableFault.{TableFault}
+use Rattle.table.specs.declared.fault.TableFault.the-variants as table
 use Rattle.register.specs.declared.register_fault.RegisterFault.{RegisterFault}
 use Rattle.register.specs.declared.register_fault.RegisterFault.the-variants as register
 

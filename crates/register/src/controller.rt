@@ -1,8 +1,8 @@
 ghost use mathlib.Core.Path.{_≡_};
 ghost use Rattle.register.specs.Functions.{function-number, function-in};
-use crate::number::Numbered;
-use crate::number::U16TotalOrder;
 use health::Health;
+use table::Numbered;
+use table::U16TotalOrder;
 
 // The PCI function that a controller is.
 #[derive(Clone, Copy)]

@@ -14,12 +14,12 @@ ghost use Rattle.register.specs.Registers.{register-over, count-after, enroll-
 ghost use Rattle.register.specs.RegisterRefusals.{in-numbers};
 use crate::controller::Controller;
 use crate::controller::ControllerNumbered;
-use crate::ordered::first_place;
-use crate::ordered::insert_record;
-use crate::ordered::record_at;
 use crate::register_fault::RegisterFault;
 use crate::register_fault::RegisterFaultFromTable;
 use health::Health;
+use table::first_place;
+use table::insert_into;
+use table::record_at;
 
 pub(crate) fn count_controllers(controllers: &[Controller]) -> usize
     ensures { λ r. ⌜ r ≡ length (map controller-of (now (controllers .entry))) ⌝ }
@@ -46,13 +46,13 @@ pub(crate) fn enroll_in(
 ) -> Result<(), RegisterFault>
     requires within { ⌜ count ≤ length (now slots) ⌝ }
     requires lawful { ⌜ T (lawful (map controller-of (take count (now slots)))) ⌝ }
-    ensures answer { λ r. ⌜ in-numbers r ≡ enroll-answer (controller-of controller) (register-over (length (now (slots .entry))) count (now (slots .entry))) ⌝ }
+    ensures refused_exactly_if_present_or_full { λ r. ⌜ in-numbers r ≡ enroll-answer (controller-of controller) (register-over (length (now (slots .entry))) count (now (slots .entry))) ⌝ }
     ensures adds_it_in_its_place { λ r. ⌜ register-over (length (now (slots .entry))) (count-after r count) (now (slots .exit)) ≡ after-enroll (controller-of controller) (register-over (length (now (slots .entry))) count (now (slots .entry))) ⌝ }
     ensures stays_lawful { λ r. ⌜ T (lawful (map controller-of (take (count-after r count) (now (slots .exit))))) ⌝ }
     ensures stays_within { λ r. ⌜ count-after r count ≤ length (now (slots .entry)) ⌝ }
     ensures a_refusal_changes_nothing { λ r. ⌜ (isOk r ≡ false → now (slots .exit) ≡ now (slots .entry)) ⌝ }
 {
-    insert_record(slots, count, controller)?;
+    insert_into(slots, count, controller)?;
     Ok(())
 }
 

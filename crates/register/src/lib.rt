@@ -1,31 +1,20 @@
-// Containers in memory that the caller lends: the ordered table, ports, and registers of controllers.
+// Registers of controllers, and the ports of the drive, in memory that the caller lends.
 mod controller;
 mod controllers;
-mod fault;
 mod inline;
 mod inline_methods;
-mod number;
-mod ordered;
 mod port;
 mod register;
 mod register_fault;
-mod table;
-mod table_methods;
 
 pub use controller::Controller;
 pub use controller::ControllerNumbered;
 pub use controller::FunctionType;
-pub use fault::TableFault;
 pub use inline::InlineRegister;
 pub use inline_methods::InlineRegisterRegister;
-pub use number::Numbered;
-pub use number::TotalOrder;
-pub use number::U8TotalOrder;
-pub use number::U16TotalOrder;
 pub use port::Port;
 pub use port::PortNumbered;
 pub use register::Register;
 pub use register_fault::RegisterFault;
 pub use register_fault::RegisterFaultDisplay;
 pub use register_fault::RegisterFaultFromTable;
-pub use table::Table;

@@ -1,5 +1,5 @@
-use crate::number::Numbered;
-use crate::number::U8TotalOrder;
+use table::Numbered;
+use table::U8TotalOrder;
 
 // A PCIe port of the drive.
 #[derive(Clone, Copy)]

@@ -36,7 +36,7 @@ pub trait Register {
 
     // Adds a controller in its place.
     fn enroll(&mut self, controller: Controller) -> Result<(), RegisterFault>
-        ensures answer { λ r. ⌜ in-numbers r ≡ enroll-answer (controller-of controller) (meaning (now (self .entry))) ⌝ }
+        ensures refused_exactly_if_present_or_full { λ r. ⌜ in-numbers r ≡ enroll-answer (controller-of controller) (meaning (now (self .entry))) ⌝ }
         ensures adds_it_in_its_place { λ _. ⌜ meaning (now (self .exit)) ≡ after-enroll (controller-of controller) (meaning (now (self .entry))) ⌝ }
         ensures a_refusal_changes_nothing { λ r. ⌜ (isOk r ≡ false → now (self .exit) ≡ now (self .entry)) ⌝ };
 

@@ -1,7 +1,7 @@
 ghost use mathlib.Core.Path.{_≡_};
 ghost use Rattle.register.specs.RegisterRefusals.{register-refusal, climbed};
-use crate::fault::TableFault;
 use std::fmt;
+use table::TableFault;
 
 // Why a register does not enroll a controller.
 #[derive(Clone, Copy)]

@@ -6,7 +6,7 @@ use Rattle.health.proofs.word.either.Needs as need
 
 pub returns : need.returns
 returns c = record {
-  value = refl;
+  has-the-bits-of-either = refl;
   bits-14-and-15-stay-clear = or-lt 14 (c .args .word) (c .args .other);
   bit-3-stays-clear = λ h k. omega (arith, or-bit 3 (c .args .word) (c .args .other));
 }

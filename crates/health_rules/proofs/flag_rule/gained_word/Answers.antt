@@ -14,6 +14,6 @@ returns c =
     (c .differing-levels-differing .ensures) (c .ready-flags .ensures) (c .shutdown-flag .ensures) (c .reset-flag .ensures)
     (c .enable-flag .ensures) (c .event-flags .ensures) (c .status-flag .ensures) (c .field-flags .ensures) (c .telemetry-flag .ensures) in
     record {
-      value = made ∙ gained-is old new .0;
+      is-the-word-of-the-table = made ∙ gained-is old new .0;
       names-flags-only = ap named-flags made ∙ gained-is old new .1 ∙ sym made;
     }

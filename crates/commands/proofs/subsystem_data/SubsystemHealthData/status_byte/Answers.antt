@@ -30,10 +30,10 @@ returns c =
     let is : _≡_ {A = ℕ} _ byte = join 8 6 sanitize (functional * 2 ^ 5 + (reset * 2 ^ 4 + (port0 * 2 ^ 3 + port1 * 2 ^ 2))) d (omega arith) (omega arith) ∙ omega arith in
     let reads = λ (k : ℕ) (b : Bool) (e : byte / 2 ^ k % 2 ≡ digit b). ap (λ w. bit w k) is ∙ is-bit byte k b e in
     record {
-      value = is;
-      sanitize-failed = reads 6 (h .«sanitize_failed») (omega arith);
-      functional = reads 5 (h .functional) (omega arith);
-      reset-not-required = reads 4 (h .«reset_not_required») (omega arith);
-      port0-link-up = reads 3 (h .«port0_link_up») (omega arith);
-      port1-link-up = reads 2 (h .«port1_link_up») (omega arith);
+      is-the-status-byte = is;
+      bit-6-is-sanitize-failed = reads 6 (h .«sanitize_failed») (omega arith);
+      bit-5-is-functional = reads 5 (h .functional) (omega arith);
+      bit-4-is-reset-not-required = reads 4 (h .«reset_not_required») (omega arith);
+      bit-3-is-port0-link-up = reads 3 (h .«port0_link_up») (omega arith);
+      bit-2-is-port1-link-up = reads 2 (h .«port1_link_up») (omega arith);
     }

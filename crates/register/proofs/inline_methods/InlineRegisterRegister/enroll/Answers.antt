@@ -14,7 +14,7 @@ returns-in-Break-enroll-in c =
     let four = c .args .self .now .«four_slots» in
     let x = controller-of (c .args .controller) in
     rw (p .1, p .2) (record {
-      answer = told .answer ∙ ap (λ k. enroll-answer x (register-over k n slots)) four;
+      refused-exactly-if-present-or-full = told .refused-exactly-if-present-or-full ∙ ap (λ k. enroll-answer x (register-over k n slots)) four;
       adds-it-in-its-place =
           ap (λ k. register-over k n (c .enroll-in .last .slots)) (sym four) ∙ told .adds-it-in-its-place
           ∙ ap (λ k. after-enroll x (register-over k n slots)) four;

@@ -4,8 +4,8 @@ use mathlib.Core.List.{_++_}
 use Prim.Native.Nat.{_+_, _-_}
 use lib.ListN.{length, take, drop, set}
 use Rattle.std.proofs.shelf.Lists.{length-take, length-drop, length-set}
-use Rattle.register.proofs.Moves.{turned-in}
-use Rattle.register.proofs.ordered.insert_at.Needs as need
+use Rattle.table.proofs.Moves.{turned-in}
+use Rattle.table.proofs.ordered.insert_at.Needs as need
 
 pub returns : need.returns
 returns g c =

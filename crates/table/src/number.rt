@@ -1,5 +1,5 @@
 ghost use mathlib.Core.Path.{_≡_};
-ghost use Rattle.register.specs.Orders.{Order, numbers};
+ghost use Rattle.table.specs.Orders.{Order};
 
 // A number that stands in a total order. The order and its laws are its meaning.
 pub trait TotalOrder: Copy {
@@ -17,20 +17,4 @@ pub trait Numbered: Copy {
 
     fn number(self) -> Self::Number
         ensures { λ r. ⌜ r ≡ key self ⌝ };
-}
-
-pub impl TotalOrder for u8 as U8TotalOrder {
-    ghost order = { numbers };
-
-    fn is_below(self, other: u8) -> bool {
-        self < other
-    }
-}
-
-pub impl TotalOrder for u16 as U16TotalOrder {
-    ghost order = { numbers };
-
-    fn is_below(self, other: u16) -> bool {
-        self < other
-    }
 }

@@ -6,7 +6,7 @@ use mathlib.Core.Bool.{Bool, true, false, cond, not}
 use native.Mathlib.Omega.{arith}
 use lib.ListN.{length, drop, getD}
 use Rattle.std.proofs.shelf.Lists.{at-drop-more, at-drop-all}
-use Rattle.register.specs.Orders.{Order, first-place, is-there}
+use Rattle.table.specs.Orders.{Order, first-place, is-there}
 
 module _ {K T : Type 0} (o : Order K) (key : T → K) (k : K) where
   -- what is left, from place i on, gives the rest of the place

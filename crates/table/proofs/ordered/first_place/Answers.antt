@@ -1,8 +1,8 @@
 use borrow.Author.Needs.{needs}
 use mathlib.Core.Path.{_≡_}
 use mathlib.Core.Bool.{true, false}
-use Rattle.register.proofs.Places.{walk-on, walk-stops, walk-ends}
-use Rattle.register.proofs.ordered.first_place.Needs as need
+use Rattle.table.proofs.Places.{walk-on, walk-stops, walk-ends}
+use Rattle.table.proofs.ordered.first_place.Needs as need
 
 pub loop-place-again : need.loop-place-again
 loop-place-again g c =

@@ -1,13 +1,12 @@
 ghost use mathlib.Core.Path.{_≡_};
-ghost use lib.ListN.{length};
 ghost use denote.Ref.{name};
 ghost use Rattle.std.specs.shelf.Maps.{nth};
-ghost use Rattle.register.specs.Orders.{first-place};
-ghost use Rattle.register.specs.Tables.{TableValues, table-of, in-use, table-over, insert-answer, table-after-insert, table-after-replace};
+ghost use Rattle.table.specs.Orders.{first-place};
+ghost use Rattle.table.specs.Tables.{TableValues, table-of, in-use, table-over, table-answer, table-after-insert, table-after-replace};
 use crate::fault::TableFault;
 use crate::number::Numbered;
 use crate::ordered::first_place;
-use crate::ordered::insert_record;
+use crate::ordered::insert_into;
 use crate::ordered::record_at;
 use crate::table::Table;
 
@@ -23,7 +22,7 @@ impl<'a, T: Numbered> Table<'a, T> {
 
     // How many records are in use.
     pub fn len(&self) -> usize
-        ensures { λ r. ⌜ r ≡ length (in-use (table-of (now (self .entry)))) ⌝ }
+        ensures { λ r. ⌜ r ≡ table-of (now (self .entry)) .used ⌝ }
     {
         self.len.min(self.slots.len())
     }
@@ -46,19 +45,19 @@ impl<'a, T: Numbered> Table<'a, T> {
 
     // Puts a record in its place, and moves those behind it up by one. Answers the place.
     pub fn insert(&mut self, item: T) -> Result<usize, TableFault<T::Number>>
-        ensures answer { λ r. ⌜ r ≡ insert-answer (Number·TotalOrder .order) (T·Numbered .key) item (length (in-use (table-of (now (self .entry))))) (table-of (now (self .entry)) .slots) ⌝ }
-        ensures table { λ _. ⌜ table-of (now (self .exit)) ≡ table-after-insert (Number·TotalOrder .order) (T·Numbered .key) item (table-of (now (self .entry))) ⌝ }
+        ensures refused_exactly_if_there_or_full { λ r. ⌜ r ≡ table-answer (Number·TotalOrder .order) (T·Numbered .key) item (table-of (now (self .entry))) ⌝ }
+        ensures moves_those_behind_it_up { λ _. ⌜ table-of (now (self .exit)) ≡ table-after-insert (Number·TotalOrder .order) (T·Numbered .key) item (table-of (now (self .entry))) ⌝ }
         ensures lends_the_same_memory { λ _. ⌜ name (now (self .exit) .slots) ≡ name (now (self .entry) .slots) ⌝ }
     {
         let len = self.len();
-        let place = insert_record(self.slots, len, item)?;
+        let place = insert_into(self.slots, len, item)?;
         self.len = len + 1;
         Ok(place)
     }
 
     // Puts another record at a place, where one is in use.
     pub fn replace(&mut self, place: usize, item: T)
-        ensures table { λ _. ⌜ table-of (now (self .exit)) ≡ table-after-replace place item (table-of (now (self .entry))) ⌝ }
+        ensures replaces_this_record_alone { λ _. ⌜ table-of (now (self .exit)) ≡ table-after-replace place item (table-of (now (self .entry))) ⌝ }
         ensures lends_the_same_memory { λ _. ⌜ name (now (self .exit) .slots) ≡ name (now (self .entry) .slots) ⌝ }
     {
         if place < self.len() {

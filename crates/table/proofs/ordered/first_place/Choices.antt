@@ -1,7 +1,7 @@
 use Prim.Native.Nat.{_-_, _≤_}
 use lib.ListN.{length}
-use Rattle.register.proofs.Places.{Walked}
-use Rattle.register.proofs.ordered.first_place.Given as given
+use Rattle.table.proofs.Places.{Walked}
+use Rattle.table.proofs.ordered.first_place.Given as given
 
 abbrev pub Inv-loop-place : given.InvT-loop-place
 Inv-loop-place g l =

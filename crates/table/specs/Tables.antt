@@ -8,10 +8,10 @@ use lib.ListN.{length, take, drop, set}
 use Rattle.std.specs.shelf.Lists.{inserted}
 use Rattle.std.specs.declared.result.Result.{Result}
 use Rattle.std.specs.declared.result.Result.the-variants.{Ok, Err}
-use Rattle.register.specs.Orders.{Order, first-place, is-there}
-use Rattle.register.specs.declared.fault.TableFault.{TableFault}
-use Rattle.register.specs.declared.fault.TableFault.the-variants.{Present, Full}
-use Rattle.register.specs.declared.table.Table.{Table}
+use Rattle.table.specs.Orders.{Order, first-place, is-there}
+use Rattle.table.specs.declared.fault.TableFault.{TableFault}
+use Rattle.table.specs.declared.fault.TableFault.the-variants.{Present, Full}
+use Rattle.table.specs.declared.table.Table.{Table}
 
 -- all slots of the memory, and how many of the first are in use
 pub record TableValues (T : Type 0) : Type 0 where
@@ -43,6 +43,9 @@ module _ {K T : Type 0} (o : Order K) (key : T → K) (x : T) where
 
   abbrev pub used-after-insert : ℕ → List T → ℕ
   used-after-insert n slots = cond (is-there o key (key x) (take n slots)) n (cond (ltb n (length slots)) (n + 1) n)
+
+  abbrev pub table-answer : TableValues T → Result ℕ (TableFault K)
+  table-answer t = insert-answer (t .used) (t .slots)
 
   abbrev pub table-after-insert : TableValues T → TableValues T
   table-after-insert t = record { slots = slots-after-insert (t .used) (t .slots); used = used-after-insert (t .used) (t .slots) }

@@ -5,25 +5,33 @@ ghost use mathlib.Core.List.{_++_};
 ghost use lib.ListN.{length, take, drop};
 ghost use Rattle.std.specs.shelf.Lists.{inserted};
 ghost use Rattle.std.specs.shelf.Maps.{nth};
-ghost use Rattle.register.specs.Orders.{first-place, is-there};
-ghost use Rattle.register.specs.Tables.{insert-answer, slots-after-insert};
+ghost use Rattle.std.specs.declared.option.Option.the-variants.{Some};
+ghost use Rattle.table.specs.Orders.{first-place, is-there};
+ghost use Rattle.table.specs.Tables.{insert-answer, slots-after-insert, table-over, table-answer, table-after-insert};
 use crate::fault::TableFault;
 use crate::number::Numbered;
 use crate::number::TotalOrder;
 
+fn slot<T: Copy>(records: &[T], place: usize) -> T
+    requires { ⌜ place < length (now records) ⌝ }
+    ensures { λ r. ⌜ nth (now (records .entry)) place ≡ Some r ⌝ }
+{
+    records[place]
+}
+
 // The record at a place, where there is one.
-pub(crate) fn record_at<T: Copy>(records: &[T], place: usize) -> Option<T>
+pub fn record_at<T: Copy>(records: &[T], place: usize) -> Option<T>
     ensures { λ r. ⌜ r ≡ nth (now (records .entry)) place ⌝ }
 {
     if place < records.len() {
-        Some(records[place])
+        Some(slot(records, place))
     } else {
         None
     }
 }
 
 // The first place whose record has a number at or above this one, else the length.
-pub(crate) fn first_place<T: Numbered>(records: &[T], number: T::Number) -> usize
+pub fn first_place<T: Numbered>(records: &[T], number: T::Number) -> usize
     ensures { λ r. ⌜ r ≡ first-place (Number·TotalOrder .order) (T·Numbered .key) number (now (records .entry)) ⌝ }
 {
     let mut place = 0;
@@ -35,8 +43,8 @@ pub(crate) fn first_place<T: Numbered>(records: &[T], number: T::Number) -> usiz
 
 // The first place at or above a number, and whether its record has that number.
 fn locate<T: Numbered>(records: &[T], number: T::Number) -> (usize, bool)
-    ensures place { λ r. ⌜ r .0 ≡ first-place (Number·TotalOrder .order) (T·Numbered .key) number (now (records .entry)) ⌝ }
-    ensures there { λ r. ⌜ r .1 ≡ is-there (Number·TotalOrder .order) (T·Numbered .key) number (now (records .entry)) ⌝ }
+    ensures is_the_first_place { λ r. ⌜ r .0 ≡ first-place (Number·TotalOrder .order) (T·Numbered .key) number (now (records .entry)) ⌝ }
+    ensures tells_whether_it_is_there { λ r. ⌜ r .1 ≡ is-there (Number·TotalOrder .order) (T·Numbered .key) number (now (records .entry)) ⌝ }
 {
     let place = first_place(records, number);
     if place < records.len() {
@@ -57,14 +65,14 @@ fn insert_at<T: Copy>(slots: &mut [T], place: usize, len: usize, item: T)
 }
 
 // Puts a record in its place among the first `len` slots.
-pub(crate) fn insert_record<T: Numbered>(
+fn insert_record<T: Numbered>(
     slots: &mut [T],
     len: usize,
     item: T,
 ) -> Result<usize, TableFault<T::Number>>
     requires { ⌜ len ≤ length (now slots) ⌝ }
-    ensures answer { λ r. ⌜ r ≡ insert-answer (Number·TotalOrder .order) (T·Numbered .key) item len (now (slots .entry)) ⌝ }
-    ensures slots { λ _. ⌜ now (slots .exit) ≡ slots-after-insert (Number·TotalOrder .order) (T·Numbered .key) item len (now (slots .entry)) ⌝ }
+    ensures refused_exactly_if_there_or_full { λ r. ⌜ r ≡ insert-answer (Number·TotalOrder .order) (T·Numbered .key) item len (now (slots .entry)) ⌝ }
+    ensures moves_those_behind_it_up { λ _. ⌜ now (slots .exit) ≡ slots-after-insert (Number·TotalOrder .order) (T·Numbered .key) item len (now (slots .entry)) ⌝ }
 {
     let number = item.number();
     let (place, present) = locate(&slots[0..len], number);
@@ -76,4 +84,18 @@ pub(crate) fn insert_record<T: Numbered>(
     }
     insert_at(slots, place, len, item);
     Ok(place)
+}
+
+// Puts a record in its place among the first `len` slots (all, where the memory has fewer), and moves those behind it up by one.
+// Answers the place.
+pub fn insert_into<T: Numbered>(
+    slots: &mut [T],
+    len: usize,
+    item: T,
+) -> Result<usize, TableFault<T::Number>>
+    ensures refused_exactly_if_there_or_full { λ r. ⌜ r ≡ table-answer (Number·TotalOrder .order) (T·Numbered .key) item (table-over len (now (slots .entry))) ⌝ }
+    ensures moves_those_behind_it_up { λ _. ⌜ now (slots .exit) ≡ table-after-insert (Number·TotalOrder .order) (T·Numbered .key) item (table-over len (now (slots .entry))) .slots ⌝ }
+{
+    let used = len.min(slots.len());
+    insert_record(slots, used, item)
 }
