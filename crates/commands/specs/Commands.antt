@@ -27,12 +27,14 @@ pub data Asked : Type 0 where
   -- Configuration Get, opcode 04h
   configuration-get : Asked
 
+-- what a request of the code asks
 abbrev pub asked-of : HealthCommand → Asked
 asked-of (SubsystemHealthStatusPoll clear) = subsystem-poll clear
 asked-of (ControllerHealthStatusPoll poll) = controller-poll poll
 asked-of (ConfigurationSet clear) = configuration-set (clear .bits)
 asked-of ConfigurationGet = configuration-get
 
+-- a command, by its opcode and its dwords
 abbrev pub dwords : ℕ → ℕ → ℕ → Command
 dwords opcode nmd0 nmd1 = record { opcode = opcode; nmd0 = nmd0; nmd1 = nmd1 }
 

@@ -21,6 +21,7 @@ pub record Entry : Type 0 where
   pub critical-warning : ℕ
   pub changed : ℕ
 
+-- an entry of the code
 abbrev pub entry-of : ControllerHealthData → Entry
 entry-of d = record {
   controller-id = d .«controller_id»;

@@ -2,6 +2,7 @@
 use Prim.Native.Nat.{ℕ, _*_, _^_}
 use mathlib.Core.Bool.{Bool, true, false}
 
+-- 1 where the bit is set
 abbrev pub digit : Bool → ℕ
 digit false = 0
 digit true = 1

@@ -8,9 +8,11 @@ use Rattle.commands.specs.declared.error.ErrorReply.the-variants as error
 use Rattle.commands.specs.declared.response.ResponseStatus.{ResponseStatus}
 use Rattle.commands.specs.declared.response.ResponseStatus.the-variants as status
 
+-- a head, by its status and NMRESP
 abbrev pub head-of : ℕ → ℕ → Head
 head-of status nmresp = record { status = status; nmresp = nmresp }
 
+-- Invalid Command Opcode
 abbrev pub invalid-opcode : Head
 invalid-opcode = head-of 0x03 0
 
@@ -18,9 +20,11 @@ invalid-opcode = head-of 0x03 0
 abbrev pub invalid-parameter : ℕ → Head
 invalid-parameter byte = head-of 0x04 (byte * 2 ^ 8)
 
+-- Invalid Command Size
 abbrev pub invalid-command-size : Head
 invalid-command-size = head-of 0x05 0
 
+-- the head of each error reply of the code
 abbrev pub error-head : ErrorReply → Head
 error-head error.InvalidOpcode = invalid-opcode
 error-head (error.InvalidParameter byte) = invalid-parameter byte

@@ -26,6 +26,7 @@ pub record SubsystemHealth : Type 0 where
   pub percentage-used : ℕ
   pub composite : ℕ
 
+-- the data of the code
 abbrev pub subsystem-of : SubsystemHealthData → SubsystemHealth
 subsystem-of d = record {
   sanitize-failed = d .«sanitize_failed»;

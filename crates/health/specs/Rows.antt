@@ -8,9 +8,11 @@ pub record RowValues : Type 0 where
   pub changed : ℕ
   pub events : ℕ
 
+-- a row of the code
 abbrev pub row-of : Row → RowValues
 row-of w = record { changed = w .changed .bits; events = w .events .bits }
 
+-- no flag and no event
 abbrev pub clear-row : RowValues
 clear-row = record { changed = 0; events = 0 }
 

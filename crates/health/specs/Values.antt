@@ -14,6 +14,7 @@ pub record HealthValues : Type 0 where
   pub available-spare : ℕ
   pub critical-warning : ℕ
 
+-- a health of the code
 abbrev pub health-of : Health → HealthValues
 health-of h = record {
   levels = h .levels;

@@ -13,6 +13,7 @@ pub record Gain : Type 0 where
   pub flag : ℕ
   pub when : Bool
 
+-- a row, by its flag and its test
 abbrev pub gain : ℕ → Bool → Gain
 gain flag when = record { flag = flag; when = when }
 
@@ -54,6 +55,7 @@ abbrev pub word-of : List Gain → ℕ
 word-of [] = 0
 word-of (g ∷ gs) = cond (g .when) (2 ^ (g .flag)) 0 + word-of gs
 
+-- the flags that a report gains against the health held before
 abbrev pub gained : HealthValues → Report → ℕ
 gained old new = word-of (status-gains (old .levels) (new .status) ++ field-gains old new)
 

@@ -8,12 +8,14 @@ use Rattle.register.specs.Functions.{function-number}
 use Rattle.table.specs.Orders.{numbers, first-place}
 use Rattle.register.specs.declared.controller.Controller.{Controller}
 
+-- a controller
 pub record ControllerValues : Type 0 where
   pub id : ℕ
   -- 0 plain PCI, 1 SR-IOV physical, 2 SR-IOV virtual function
   pub function : ℕ
   pub health : HealthValues
 
+-- a controller of the code
 abbrev pub controller-of : Controller → ControllerValues
 controller-of c = record { id = c .id; function = function-number (c .function); health = health-of (c .health) }
 
@@ -26,6 +28,7 @@ abbrev pub lawful-from : ℕ → List ControllerValues → Bool
 lawful-from n [] = true
 lawful-from n (c ∷ cs) = leb n (c .id) && (sound c && lawful-from (c .id + 1) cs)
 
+-- sound controllers whose IDs ascend, none twice
 abbrev pub lawful : List ControllerValues → Bool
 lawful cs = lawful-from 0 cs
 

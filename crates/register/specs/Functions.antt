@@ -13,5 +13,6 @@ function-number Pci = 0
 function-number SriovPhysical = 1
 function-number SriovVirtual = 2
 
+-- the type of a number, where there is one
 abbrev pub function-in : ℕ → Option FunctionType
 function-in n = cond (eqb n 0) (Some Pci) (cond (eqb n 1) (Some SriovPhysical) (cond (eqb n 2) (Some SriovVirtual) None))

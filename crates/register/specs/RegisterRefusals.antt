@@ -16,6 +16,7 @@ id-present id = record { number = 22; layer = 2; place = id }
 abbrev pub register-full : ℕ → Refusal
 register-full capacity = record { number = 23; layer = 2; place = capacity }
 
+-- what each fault of the code is
 abbrev pub register-refusal : RegisterFault → Refusal
 register-refusal (register.Present id) = id-present id
 register-refusal (register.Full capacity) = register-full capacity

@@ -13,6 +13,7 @@ use Rattle.register.specs.Controllers.{ControllerValues, controller-of, presen
 use Rattle.register.specs.declared.controller.Controller.{Controller}
 use Rattle.register.specs.RegisterRefusals.{id-present, register-full}
 
+-- a capacity, and the controllers in ascending ID
 pub record RegisterValues : Type 0 where
   pub capacity : ℕ
   pub controllers : List ControllerValues
@@ -25,6 +26,7 @@ register-over capacity n slots = record { capacity = capacity; controllers = map
 abbrev pub count-after : {A E : Type 0} → Result A E → ℕ → ℕ
 count-after r n = cond (isOk r) (n + 1) n
 
+-- the same register with another list
 abbrev pub with-controllers : RegisterValues → List ControllerValues → RegisterValues
 with-controllers m cs = record { capacity = m .capacity; controllers = cs }
 
@@ -34,10 +36,12 @@ enroll-answer x m =
     refuse-if (present (x .id) (m .controllers)) (id-present (x .id))
     (refuse-if (not (ltb (length (m .controllers)) (m .capacity))) (register-full (m .capacity)) (Ok tt))
 
+-- the list has it in its place, unless it is refused
 abbrev pub after-enroll : ControllerValues → RegisterValues → RegisterValues
 after-enroll x m =
     cond (present (x .id) (m .controllers)) m
     (cond (not (ltb (length (m .controllers)) (m .capacity))) m (with-controllers m (enrolled x (m .controllers))))
 
+-- one health is replaced
 abbrev pub after-write : ℕ → HealthValues → RegisterValues → RegisterValues
 after-write place h m = with-controllers m (written place h (m .controllers))

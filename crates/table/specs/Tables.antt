@@ -18,9 +18,11 @@ pub record TableValues (T : Type 0) : Type 0 where
   pub slots : List T
   pub used : ℕ
 
+-- the table over these slots, of which the first are in use (all, where there are fewer)
 abbrev pub table-over : {T : Type 0} → ℕ → List T → TableValues T
 table-over len slots = record { slots = slots; used = min len (length slots) }
 
+-- a table of the code
 abbrev pub table-of : {T K : Type 0} → Table T K → TableValues T
 table-of t = table-over (t .len) (now (t .slots))
 
@@ -41,12 +43,15 @@ module _ {K T : Type 0} (o : Order K) (key : T → K) (x : T) where
       cond (is-there o key (key x) (take n slots)) slots
       (cond (ltb n (length slots)) (inserted (take n slots) (first-place o key (key x) (take n slots)) x ++ drop (n + 1) slots) slots)
 
+  -- one more is in use, unless it is refused
   abbrev pub used-after-insert : ℕ → List T → ℕ
   used-after-insert n slots = cond (is-there o key (key x) (take n slots)) n (cond (ltb n (length slots)) (n + 1) n)
 
+  -- the same of a table
   abbrev pub table-answer : TableValues T → Result ℕ (TableFault K)
   table-answer t = insert-answer (t .used) (t .slots)
 
+  -- the table after an insertion
   abbrev pub table-after-insert : TableValues T → TableValues T
   table-after-insert t = record { slots = slots-after-insert (t .used) (t .slots); used = used-after-insert (t .used) (t .slots) }
 

@@ -6,24 +6,28 @@ use native.Mathlib.Omega.{arith}
 use lib.ListN.{getD}
 use Rattle.std.proofs.shelf.Bits.{mod-pow-add}
 
--- the 16-bit, 24-bit and 32-bit number at a place
+-- the 16-bit number at a place
 abbrev pub word-at : List ℕ → ℕ → ℕ
 word-at bytes place = getD bytes place 0 + getD bytes (place + 1) 0 * 256
 
+-- the 24-bit number at a place
 abbrev pub triple-at : List ℕ → ℕ → ℕ
 triple-at bytes place = getD bytes place 0 + getD bytes (place + 1) 0 * 256 + getD bytes (place + 2) 0 * 65536
 
+-- the 32-bit number at a place
 abbrev pub dword-at : List ℕ → ℕ → ℕ
 dword-at bytes place =
     getD bytes place 0 + getD bytes (place + 1) 0 * 256 + getD bytes (place + 2) 0 * 65536 + getD bytes (place + 3) 0 * 16777216
 
--- a number's bytes, and the bytes behind them
+-- the two bytes of a number, and those behind them
 abbrev pub word-then : ℕ → List ℕ → List ℕ
 word-then n rest = n % 256 ∷ n / 256 % 256 ∷ rest
 
+-- the three bytes of a number, and those behind them
 abbrev pub triple-then : ℕ → List ℕ → List ℕ
 triple-then n rest = n % 256 ∷ n / 256 % 256 ∷ n / 65536 % 256 ∷ rest
 
+-- the four bytes of a number, and those behind them
 abbrev pub dword-then : ℕ → List ℕ → List ℕ
 dword-then n rest = n % 256 ∷ n / 256 % 256 ∷ n / 65536 % 256 ∷ n / 16777216 % 256 ∷ rest
 

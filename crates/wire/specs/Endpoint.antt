@@ -24,6 +24,7 @@ request-in bytes = record {
   surplus = length bytes - 16;
 }
 
+-- refused under 16 bytes, then by byte 0, then by the NMP
 abbrev pub read-request : List ℕ → Result Request Refusal
 read-request bytes =
     refuse-if (ltb (length bytes) 16) (cut-short (length bytes))
@@ -31,6 +32,7 @@ read-request bytes =
     (refuse-if (not (is-request (getD bytes 1 0))) (wrong-message-type 1)
     (Ok (request-in bytes))))
 
+-- NMP 09h with tag 1
 abbrev pub write-request : Bool → Command → List ℕ
 write-request tag command =
     0x84 ∷ cond tag 0x09 0x08 ∷ 0 ∷ 0 ∷ command .opcode ∷ 0 ∷ 0 ∷ 0 ∷ dword-then (command .nmd0) (dword-then (command .nmd1) [])
@@ -39,9 +41,11 @@ write-request tag command =
 abbrev pub write-head : Bool → Head → List ℕ
 write-head tag head = 0x84 ∷ cond tag 0x89 0x88 ∷ 0 ∷ 0 ∷ head .status ∷ triple-then (head .nmresp) []
 
+-- a head, by its bytes
 abbrev pub head-in : List ℕ → Head
 head-in bytes = record { status = getD bytes 4 0; nmresp = triple-at bytes 5 }
 
+-- refused under 8 bytes, then by byte 0, then by the NMP
 abbrev pub read-head : List ℕ → Result Head Refusal
 read-head bytes =
     refuse-if (ltb (length bytes) 8) (cut-short (length bytes))
@@ -67,6 +71,7 @@ head-at-layer-3 bytes =
     header-at-layer-3 (ltb (length bytes) 8) (not (eqb (getD bytes 0 0) 0x84)) (not (is-reply (getD bytes 1 0))) (length bytes) 1
     (Ok (head-in bytes)) tt
 
+-- kind 1
 abbrev pub endpoint : CarrierMeaning
 endpoint = record {
   kind = 1;

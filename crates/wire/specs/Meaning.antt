@@ -26,6 +26,7 @@ pub same-head : (status : ℕ) {a a′ : ℕ} → a ≡ a′
     → _≡_ {A = Result Head Refusal} (Ok (record { status = status; nmresp = a })) (Ok (record { status = status; nmresp = a′ }))
 same-head status e = ap {B = Result Head Refusal} (λ a. Ok (record { status = status; nmresp = a })) e
 
+-- kind and lengths, the four definitions, their lengths and layer, and the two laws
 pub record CarrierMeaning : Type 0 where
   -- 1 to 255
   pub kind : ℕ
@@ -50,5 +51,6 @@ pub record CarrierMeaning : Type 0 where
   pub head-reads-back : (tag : Bool) (head : Head) → head .status < 2 ^ 8 → head .nmresp < 2 ^ 24
       → read-head (write-head tag head) ≡ Ok head
 
+-- the kind and the two lengths
 abbrev pub lengths-of : CarrierMeaning → Lengths
 lengths-of m = record { kind = m .kind; head = m .head-length; request = m .request-length }

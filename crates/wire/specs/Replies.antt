@@ -14,6 +14,7 @@ pub record ReplyMeaning : Type 0 where
   pub head : Head
   pub payload : List ℕ
 
+-- a head that was read, with the data
 abbrev pub head-then : List ℕ → Result Head Refusal → Result ReplyMeaning Refusal
 head-then payload (Ok head) = Ok (record { head = head; payload = payload })
 head-then payload (Err refused) = Err refused

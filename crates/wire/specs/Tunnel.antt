@@ -27,6 +27,7 @@ direction opcode = cond (eqb opcode 0x03) 0x1d 0x1e
 abbrev pub request-in : List ℕ → Request
 request-in bytes = plain-request (record { opcode = getD bytes 44 0; nmd0 = dword-at bytes 48; nmd1 = dword-at bytes 52 })
 
+-- refused if not of 64 bytes, then by byte 0, then by the NMP, then by the direction
 abbrev pub read-request : List ℕ → Result Request Refusal
 read-request bytes =
     refuse-if (not (eqb (length bytes) 64)) (cut-short (length bytes))
@@ -41,12 +42,15 @@ write-request tag command =
     direction (command .opcode) ∷ replicate 40 0
     ++ (0x08 ∷ 0 ∷ 0 ∷ command .opcode ∷ 0 ∷ 0 ∷ 0 ∷ dword-then (command .nmd0) (dword-then (command .nmd1) (replicate 8 0)))
 
+-- nor has a head
 abbrev pub write-head : Bool → Head → List ℕ
 write-head tag head = head .status ∷ triple-then (head .nmresp) []
 
+-- status in byte 0, NMRESP from byte 1 on
 abbrev pub head-in : List ℕ → Head
 head-in bytes = record { status = getD bytes 0 0; nmresp = triple-at bytes 1 }
 
+-- refused under 4 bytes
 abbrev pub read-head : List ℕ → Result Head Refusal
 read-head bytes = refuse-if (ltb (length bytes) 4) (cut-short (length bytes)) (Ok (head-in bytes))
 
@@ -72,6 +76,7 @@ request-at-layer-3 bytes =
 pub head-at-layer-3 : (bytes : List ℕ) → At-layer-3 (read-head bytes)
 head-at-layer-3 bytes = test-at-layer-3 (ltb (length bytes) 4) (cut-short (length bytes)) (Ok (head-in bytes)) refl tt
 
+-- kind 2
 abbrev pub tunnel : CarrierMeaning
 tunnel = record {
   kind = 2;

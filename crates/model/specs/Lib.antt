@@ -1,0 +1,10 @@
+pub mod State
+pub mod ServiceRefusals
+pub mod Fitting
+pub mod Reports
+pub mod Drives
+pub mod Requests
+pub mod Calls
+pub mod Histories
+pub mod Law
+pub mod ReferenceCases
