@@ -181,10 +181,14 @@ pub record Clears (r id : ℕ) (e : Event) : Type 0 where
   pub clearing : poll .«clear_changed_flags» ≡ true
   pub returns-it : (i : ℕ) × (i < entry-count nmresp) × (id-in (entry-at payload i) ≡ id)
 
+-- after this nothing of before stands for r of the controller
+abbrev pub Ends-standing : ℕ → ℕ → Event → Type 0
+Ends-standing r id e = Resets r e ⊎ Clears r id e
+
 -- field f of the controller stands changed for r: an accepted report changed it after the latest of opening, r's granted resets and
 -- r's clearings of the controller
 abbrev pub Stands-changed : State → List Event → ℕ → ℕ → ℕ → Type 0
-Stands-changed s t r id f = Since (Changes s id f) (λ e. Resets r e ⊎ Clears r id e) t
+Stands-changed s t r id f = Since (Changes s id f) (Ends-standing r id) t
 
 -- r clears composite flag f: a successful Configuration Set with its bit, a successful subsystem poll with Clear Status, or a granted reset
 pub data Clears-composite (r f : ℕ) (e : Event) : Type 0 where

@@ -1,0 +1,3 @@
+pub mod Noninterference
+pub mod Responders
+pub mod Standing
