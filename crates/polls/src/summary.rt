@@ -13,6 +13,7 @@ use health_rules::temperature_code;
 use register::{Port, Register};
 
 // Link up at the ports of lowest and of second lowest identifier; down where there is none.
+#[tactic(auto, using(crate::proofs::LowestPorts::lowest_from_0, crate::proofs::LowestPorts::lowest_from_next))]
 fn links(ports: &[Port]) -> (bool, bool)
     ensures lowest { result.0 ≡ lowest_link ports.now }
     ensures second_lowest { result.1 ≡ second_lowest_link ports.now }

@@ -16,7 +16,7 @@ loop-place-init g c =
     let cs = (g.R.Register.meaning c.args.register.now).controllers in
     let ws = map row_of c.args.rows.now in
     subst (λ (k : ℕ). Going c.args.poll (c.args.poll.maxrent + 1) cs ws c.args.space.now k 0 ws c.args.space.now)
-    (sym c.first-place-place.ensures) (begin c.args.poll (c.args.poll.maxrent + 1) cs ws c.args.space.now (omega arith))
+    (sym c.first_place-place.ensures) (begin c.args.poll (c.args.poll.maxrent + 1) cs ws c.args.space.now (omega arith))
 
 pub loop-place-preserved : goal.loop-place-preserved
 loop-place-preserved g c =
@@ -30,35 +30,35 @@ loop-place-preserved g c =
     let x = controller_of c.in-Some.controller in
     let at_c : slice_get cs place ≡ Some x = sym c.get.ensures ∙ ap (option_map controller_of) c.in-Some.is in
     let at_w = read_row row_of c.loop-place.rows ws place row c.loop-place-test.true c.loop-place.invariant.rest_of_rows c.index-rows-place.is in
-    let more : found < p.maxrent + 1 = ltb-true found (p.maxrent + 1) (sym c.if-may-return-more.ensures) in
+    let more : found < p.maxrent + 1 = ltb-true found (p.maxrent + 1) (sym c.if-may_return_more.ensures) in
     let within : place < length rows = simp length-map c.loop-place-test.true in
     elim c.if-qualifies.branch [
       | then-qualifies w ↦
           let room : 16 * found + 16 ≤ length c.loop-place.space = omega arith in
-          let rows_are = map-set row_of c.loop-place.rows place w.returned-row.result ∙ ap (set rows place) w.returned-row.ensures in
+          let rows_are = map-set row_of c.loop-place.rows place w.returned_row.result ∙ ap (set rows place) w.returned_row.ensures in
           let bytes = entry_bytes (entry_for x (row_of row)) in
-          let front = written_front c.loop-place.space w.write-entry.new.space bytes found w.write-entry.ensures refl room in
-          let behind = written_behind c.loop-place.space w.write-entry.new.space bytes found w.write-entry.ensures refl room in
-          rw (w.rows-is, w.space-is, w.found_is) (return_it p (p.maxrent + 1) cs ws c.args.space.now place found x (row_of row) at_c at_w more rows c.loop-place.space c.loop-place.invariant within _ _ (sym w.if-qualifies.ensures) rows_are front behind)
+          let front = written_front c.loop-place.space w.write_entry.new.space bytes found w.write_entry.ensures refl room in
+          let behind = written_behind c.loop-place.space w.write_entry.new.space bytes found w.write_entry.ensures refl room in
+          rw (w.rows-is, w.space-is, w.found-is) (return_it p (p.maxrent + 1) cs ws c.args.space.now place found x (row_of row) at_c at_w more rows c.loop-place.space c.loop-place.invariant within _ _ (sym w.if-qualifies.ensures) rows_are front behind)
       | else-qualifies w ↦
-          rw (w.rows-is, w.space-is, w.found_is) (skip p (p.maxrent + 1) cs ws c.args.space.now place found x (row_of row) at_c at_w more rows c.loop-place.space c.loop-place.invariant within (sym w.if-qualifies.ensures))
+          rw (w.rows-is, w.space-is, w.found-is) (skip p (p.maxrent + 1) cs ws c.args.space.now place found x (row_of row) at_c at_w more rows c.loop-place.space c.loop-place.invariant within (sym w.if-qualifies.ensures))
     ]
 
-pub returns-in-default : goal.returns-in-default
-returns-in-default g c =
+pub returns-in_default : goal.returns-in_default
+returns-in_default g c =
     let cs = (g.R.Register.meaning c.args.register.now).controllers in
     let ws = map row_of c.args.rows.now in
     let n = c.args.poll.maxrent + 1 in
     let e = ended c.args.poll n cs ws c.args.space.now c.loop-place.place c.loop-place.found (map row_of c.loop-place.rows) c.loop-place.space c.loop-place.invariant
-    (no_more_controllers c.args.poll n cs ws c.args.space.now c.loop-place.place c.loop-place.found (sym c.in-default.ensures)) in
+    (no_more_controllers c.args.poll n cs ws c.args.space.now c.loop-place.place c.loop-place.found (sym c.in_default.ensures)) in
     record { counts_those_returned = e.counts; clears_those_returned_and_no_other = e.leaves_rows; writes_their_entries_and_no_other_byte = e.writes }
 
-pub returns-else-may-return-more : goal.returns-else-may-return-more
-returns-else-may-return-more g c =
+pub returns-else-may_return_more : goal.returns-else-may_return_more
+returns-else-may_return_more g c =
     let cs = (g.R.Register.meaning c.args.register.now).controllers in
     let ws = map row_of c.args.rows.now in
     let n = c.args.poll.maxrent + 1 in
-    let h = ltb-false c.loop-place.found n (sym c.if-may-return-more.ensures) in
+    let h = ltb-false c.loop-place.found n (sym c.if-may_return_more.ensures) in
     let e = ended c.args.poll n cs ws c.args.space.now c.loop-place.place c.loop-place.found (map row_of c.loop-place.rows) c.loop-place.space c.loop-place.invariant
     (no_more_entries c.args.poll n cs ws c.args.space.now c.loop-place.place c.loop-place.found h) in
     record { counts_those_returned = e.counts; clears_those_returned_and_no_other = e.leaves_rows; writes_their_entries_and_no_other_byte = e.writes }

@@ -36,7 +36,7 @@ loop-place-preserved-in-Some g c =
 pub loop-place-preserved : goal.loop-place-preserved
 loop-place-preserved g c =
     let cs = (g.R.Register.meaning c.args.register.now).controllers in
-    absurd (nth_within cs (c.loop-place.place - 1) (omega (arith, c.len-place.ensures)) (sym c.in-default.ensures))
+    absurd (nth_within cs (c.loop-place.place - 1) (omega (arith, c.len-place.ensures)) (sym c.in_default.ensures))
 
 pub returns : goal.returns
 returns g c =

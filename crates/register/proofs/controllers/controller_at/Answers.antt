@@ -5,4 +5,4 @@ use Rattle.register.proofs.Lawful.{nth_of_values}
 use Rattle.register.proofs.controllers.controller_at.Goals as goal
 
 pub returns : goal.returns
-returns c = ap (option_map controller_of) c.record-at.ensures ∙ nth_of_values c.args.controllers.now c.args.place
+returns c = ap (option_map controller_of) c.record_at.ensures ∙ nth_of_values c.args.controllers.now c.args.place

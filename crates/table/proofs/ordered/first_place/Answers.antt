@@ -7,15 +7,15 @@ loop-place-preserved g c =
     let o = g.T.Number.TotalOrder.order in
     let key = g.T.Numbered.key in
     let x = c.index-records-place.result in
-    let t : o.below (key x) c.args.number ≡ true = cc c.if-is-below.ensures in
+    let t : o.below (key x) c.args.number ≡ true = cc c.if-is_below.ensures in
     (search rules, walk_on o key c.args.number c.args.records.now c.loop-place.place x (search rules) c.index-records-place.is t c.loop-place.invariant.1)
 
-pub returns-else-is-below : goal.returns-else-is-below
-returns-else-is-below g c =
+pub returns-else-is_below : goal.returns-else-is_below
+returns-else-is_below g c =
     let o = g.T.Number.TotalOrder.order in
     let key = g.T.Numbered.key in
     let x = c.index-records-place.result in
-    let t : o.below (key x) c.args.number ≡ false = cc c.if-is-below.ensures in
+    let t : o.below (key x) c.args.number ≡ false = cc c.if-is_below.ensures in
     walk_stops o key c.args.number c.args.records.now c.loop-place.place x (search rules) c.index-records-place.is t c.loop-place.invariant.1
 
 pub returns-after-loop-place : goal.returns-after-loop-place

@@ -9,12 +9,12 @@ pub returns : goal.returns
 returns g c =
     let m = g.C.Carrier.meaning in
     let n = m.request_length in
-    let k = c.in-ok-length.length in
+    let k = c.in_ok-length.length in
     let xs = c.args.space.now in
     let tag = c.args.tag in
     let command = c.args.command in
     let written : length_written n xs ≡ Ok k =
-    sym c.write_request.ensures.answers_the_length_written ∙ ap in_numbers c.in-ok-length.was in
+    sym c.write_request.ensures.answers_the_length_written ∙ ap in_numbers c.in_ok-length.was in
     let front =
     written_front n k (m.write_request tag command) xs c.write_request.new.space (m.request_has_its_length tag command) written
     c.write_request.ensures.writes_these_bytes_and_no_other in
