@@ -19,10 +19,10 @@ returns g c =
     let ports = c.args.ports.now in
     let status = status_of c.args.status in
     let composite = c.args.composite.bits in
-    let bytes = c.to-bytes-bytes.ensures.is_these_bytes ∙ ap subsystem_bytes (c.subsystem_health.ensures ∙ ap (λ used. health_shown m status used composite) (sym (take_all (length ports) ports (omega arith)))) in
+    let bytes = c.to_bytes-bytes.ensures.is_these_bytes ∙ ap subsystem_bytes (c.subsystem_health.ensures ∙ ap (λ used. health_shown m status used composite) (sym (take_all (length ports) ports (omega arith)))) in
     λ kind ws. record {
       has_the_head = c.success.ensures;
       has_the_length = refl;
-      writes_the_data = c.write-front.ensures ∙ ap (λ l. l ++ drop (length l) c.args.payload.now) bytes;
-      leaves_the_responder = ap (λ v. responder_with kind v ws) c.unless-cleared.ensures ∙ shown_responder c.args.clear-status kind composite ws;
+      writes_the_data = c.write_front.ensures ∙ ap (λ l. l ++ drop (length l) c.args.payload.now) bytes;
+      leaves_the_responder = ap (λ v. responder_with kind v ws) c.unless_cleared.ensures ∙ shown_responder c.args.clear_status kind composite ws;
     }

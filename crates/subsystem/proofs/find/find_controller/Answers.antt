@@ -9,10 +9,10 @@ pub returns-else-controller-id : goal.returns-else-controller-id
 returns-else-controller-id g c =
     let m = g.R.Register.meaning c.args.register.now in
     let cs = m.controllers in
-    let e = subst (λ (k : ℕ). slice_get cs k ≡ Some (controller_of c.in-Some.controller)) c.first-place-place.ensures (sym c.in-Some.ensures) in
+    let e = subst (λ (k : ℕ). slice_get cs k ≡ Some (controller_of c.in-Some.controller)) c.first_place-place.ensures (sym c.in-Some.ensures) in
     absent_there c.args.id 0 cs (controller_of c.in-Some.controller) (lawful_ascends 0 cs (g.R.Register.holds_lawful_controllers c.args.register.now)) e c.if-controller-id.false
 
 pub returns-in-None : goal.returns-in-None
 returns-in-None g c =
     let cs = (g.R.Register.meaning c.args.register.now).controllers in
-    absent_past c.args.id cs (subst (λ (k : ℕ). slice_get cs k ≡ None) c.first-place-place.ensures (sym c.in-None.ensures))
+    absent_past c.args.id cs (subst (λ (k : ℕ). slice_get cs k ≡ None) c.first_place-place.ensures (sym c.in-None.ensures))

@@ -50,7 +50,7 @@ returns-then-port-id c =
     record {
       tells_whether_there_is_one = sym (i.1 ∙ is_there c.args.id c.args.up ports k within e);
       links_the_first =
-          ap (set c.loop-place.ports k) c.with-link.ensures
+          ap (set c.loop-place.ports k) c.with_link.ensures
           ∙ (λ j. set (i.0 j) k (record { id = (get_or (i.0 j) k vacant).id; link_up = c.args.up }))
           ∙ sym (links-it c.args.id c.args.up ports k within e) ∙ sym i.2;
       else_nothing_changes = search rules;

@@ -15,19 +15,19 @@ row_within r n c place rows l p q = let w = rows_within c r n l in omega arith
 pub loop-r-init : goal.loop-r-init
 loop-r-init c = (refl, refl)
 
-pub offset-bounds-rows-at : goal.offset-bounds-rows-at
-offset-bounds-rows-at c =
+pub offset_bounds-rows-at : goal.offset_bounds-rows-at
+offset_bounds-rows-at c =
     let h = row_within _ _ _ _ _ c.loop-r-test.true c.requires.a_place_of_a_controller c.requires.rows_for_all in search rules
 
 pub bounds-rows-at : goal.bounds-rows-at
-bounds-rows-at c = omega (arith, c.row-index-at.ensures, row_within _ _ _ _ _ c.loop-r-test.true c.requires.a_place_of_a_controller c.requires.rows_for_all)
+bounds-rows-at c = omega (arith, c.row_index-at.ensures, row_within _ _ _ _ _ c.loop-r-test.true c.requires.a_place_of_a_controller c.requires.rows_for_all)
 
-pub offset-bounds-rows-at-in-loop-r : goal.offset-bounds-rows-at-in-loop-r
-offset-bounds-rows-at-in-loop-r c =
+pub offset_bounds-rows-at-in-loop-r : goal.offset_bounds-rows-at-in-loop-r
+offset_bounds-rows-at-in-loop-r c =
     let h = row_within _ _ _ _ _ c.loop-r-test.true c.requires.a_place_of_a_controller c.requires.rows_for_all in search rules
 
 pub bounds-rows-at-in-loop-r : goal.bounds-rows-at-in-loop-r
-bounds-rows-at-in-loop-r c = omega (arith, c.row-index-at.ensures, row_within _ _ _ _ _ c.loop-r-test.true c.requires.a_place_of_a_controller c.requires.rows_for_all)
+bounds-rows-at-in-loop-r c = omega (arith, c.row_index-at.ensures, row_within _ _ _ _ _ c.loop-r-test.true c.requires.a_place_of_a_controller c.requires.rows_for_all)
 
 pub loop-r-preserved : goal.loop-r-preserved
 loop-r-preserved c =
@@ -36,21 +36,21 @@ loop-r-preserved c =
     let gained = c.args.gained.bits in
     let events = c.args.events.bits in
     let r = c.loop-r.r in
-    let k = c.row-index-at.result in
+    let k = c.row_index-at.result in
     let hs = map responder_of c.loop-r.responders in
     let ws = map row_of c.loop-r.rows in
     let row = c.index-rows-at.result in
     let x = c.index-responders-r.result in
-    let within : k < length c.loop-r.rows = omega (arith, c.row-index-at.ensures, row_within _ _ _ _ _ c.loop-r-test.true c.requires.a_place_of_a_controller c.requires.rows_for_all) in
+    let within : k < length c.loop-r.rows = omega (arith, c.row_index-at.ensures, row_within _ _ _ _ _ c.loop-r-test.true c.requires.a_place_of_a_controller c.requires.rows_for_all) in
     let there : r < length c.loop-r.responders = omega arith in
     let read_row : row_of row ≡ get_or ws k clear_row = sym (get_or-map row_of c.loop-r.rows k row clear_row within ∙ ap row_of (sym c.index-rows-at.is)) in
     let read-responder : responder_of x ≡ get_or hs r (responder_of x) = sym (get_or-map responder_of c.loop-r.responders r x (responder_of x) there ∙ ap responder_of (sym c.index-responders-r.is)) in
     let new_responders = map-set responder_of c.loop-r.responders r c.raise.result
     ∙ ap (set hs r) (c.raise.ensures ∙ ap₂ (raised gained) read_row read-responder) in
     let new-rows = map-set row_of c.loop-r.rows k c.with.result ∙ ap (set ws k) (c.with.ensures ∙ ap (gaining gained events) read_row) in
-    let spare : k < length c.args.responders.now * n = let w = rows_within n r (length c.args.responders.now) c.loop-r-test.true in let p = c.requires.a_place_of_a_controller in omega (arith, c.row-index-at.ensures) in (
+    let spare : k < length c.args.responders.now * n = let w = rows_within n r (length c.args.responders.now) c.loop-r-test.true in let p = c.requires.a_place_of_a_controller in omega (arith, c.row_index-at.ensures) in (
       ap₂ (responders_with_rows n) new_responders new-rows
-          ∙ responder_marked n place gained events c.requires.a_place_of_a_controller hs ws r k (responder_of x) c.row-index-at.ensures (simp length-map there)
+          ∙ responder_marked n place gained events c.requires.a_place_of_a_controller hs ws r k (responder_of x) c.row_index-at.ensures (simp length-map there)
           ∙ ap (λ xs. at_place xs r (marked_at place gained events)) c.loop-r.invariant.0
           ∙ sym (first_more r (marked_at place gained events) _),
       ap (drop _) new-rows ∙ drop-set-lt _ ws k _ spare ∙ c.loop-r.invariant.1,

@@ -3,8 +3,8 @@ use Rattle.model.proofs.Controllers.{lawful_ascends}
 use Rattle.subsystem.proofs.Finding.{few_controllers}
 use Rattle.subsystem.proofs.memory.rows_needed.Goals as goal
 
-pub overflow-mul-result : goal.overflow-mul-result
-overflow-mul-result g c =
+pub overflow_mul-result : goal.overflow_mul-result
+overflow_mul-result g c =
     let cs = (g.R.Register.meaning c.args.register.now).controllers in
     let few = few_controllers 0 cs (lawful_ascends 0 cs (g.R.Register.holds_lawful_controllers c.args.register.now)) (omega arith) in
     let n : c.len.result ≤ 2 ^ 16 = omega (arith, c.len.ensures) in

@@ -19,17 +19,17 @@ returns-in-Ok g c =
     let b = c.args.self in
     let m = g.R.Register.meaning c.args.register.now in
     let rows = c.args.rows.now in
-    let after = c.clear-for-opening.new.rows in
+    let after = c.clear_for_opening.new.rows in
     let e = c.in-Ok.ensures in
-    let responders : map responder_of (take b.responder_count c.responders-of-kinds.result) ≡ map no_composite (fitted_of b).kinds =
-    sym (take-map responder_of b.responder_count c.responders-of-kinds.result) ∙ ap (take b.responder_count) c.responders-of-kinds.ensures ∙ take-map no_composite b.responder_count b.kinds in
+    let responders : map responder_of (take b.responder_count c.responders_of_kinds.result) ≡ map no_composite (fitted_of b).kinds =
+    sym (take-map responder_of b.responder_count c.responders_of_kinds.result) ∙ ap (take b.responder_count) c.responders_of_kinds.ensures ∙ take-map no_composite b.responder_count b.kinds in
     let drive : List Port → Drive = λ ports. record { register = m; status = status_of c.initial_status.result; port_count = b.port_count; ports = ports } in
     let state : (rest : List Row) (ports : List Port)
-    → state_from (drive ports) (map responder_of (take b.responder_count c.responders-of-kinds.result)) (map row_of (after ++ rest)) ≡ opened (fitted_of b) m (map row_of (rows ++ rest)) ports =
+    → state_from (drive ports) (map responder_of (take b.responder_count c.responders_of_kinds.result)) (map row_of (after ++ rest)) ≡ opened (fitted_of b) m (map row_of (rows ++ rest)) ports =
     λ rest ports.
-    ap₂ (λ status ws. state_from (record { register = m; status = status; port_count = b.port_count; ports = ports }) (map responder_of (take b.responder_count c.responders-of-kinds.result)) ws)
+    ap₂ (λ status ws. state_from (record { register = m; status = status; port_count = b.port_count; ports = ports }) (map responder_of (take b.responder_count c.responders_of_kinds.result)) ws)
     c.initial_status.ensures (map-append row_of after rest)
-    ∙ opened_is (fitted_of b) m ports (map responder_of (take b.responder_count c.responders-of-kinds.result)) (map row_of rows) (map row_of rest) (map row_of after) responders
+    ∙ opened_is (fitted_of b) m ports (map responder_of (take b.responder_count c.responders_of_kinds.result)) (map row_of rows) (map row_of rest) (map row_of after) responders
     (open_room (fitted_of b) m (map row_of rows) e.refused_without_controllers_responders_or_rows) e.clears_the_rows_in_use
     ∙ ap (λ ws. opened (fitted_of b) m ws ports) (sym (map-append row_of rows rest)) in
     record {

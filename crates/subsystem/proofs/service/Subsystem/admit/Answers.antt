@@ -18,29 +18,29 @@ returns-then-self-r c =
     ∙ another_kind x c.from-r.result c.args.lengths c.args.lent c.index-self-r.result c.if-r-self.false c.if-self-r.true
     ∙ ap (λ r. admission (responders_of x) x.port_count r c.args.lengths c.args.lent) c.from-r.ensures
 
-pub returns-in-err-check-length : goal.returns-in-err-check-length
-returns-in-err-check-length c =
+pub returns-in_err-check_length : goal.returns-in_err-check_length
+returns-in_err-check_length c =
     let x = c.args.self.now in
-    let f = c.in-err-check-length.field-0.0 in
-    let p = err_from_is_err_and c.from-residual.result c.from-residual.ensures.1 in
+    let f = c.in_err-check_length.field-0.0 in
+    let p = err_from_is_err_and c.from_residual.result c.from_residual.ensures.1 in
     ap in_numbers (p.1 ∙ ap Err p.2)
-    ∙ rows_short x c.from-r.result c.args.lengths c.args.lent c.index-self-r.result c.if-r-self.false c.if-self-r.false (fault_refusal f) c.in-err-check-length.ensures
+    ∙ rows_short x c.from-r.result c.args.lengths c.args.lent c.index-self-r.result c.if-r-self.false c.if-self-r.false (fault_refusal f) c.in_err-check_length.ensures
     ∙ ap (λ r. admission (responders_of x) x.port_count r c.args.lengths c.args.lent) c.from-r.ensures
 
-pub returns-in-err-check-length-2 : goal.returns-in-err-check-length-2
-returns-in-err-check-length-2 c =
+pub returns-in_err-check_length-2 : goal.returns-in_err-check_length-2
+returns-in_err-check_length-2 c =
     let x = c.args.self.now in
-    let f = c.in-err-check-length-2.field-0.0 in
-    let p = err_from_is_err_and c.from-residual-in-err-check-length-2.result c.from-residual-in-err-check-length-2.ensures.1 in
+    let f = c.in_err-check_length-2.field-0.0 in
+    let p = err_from_is_err_and c.from_residual-in_err-check_length-2.result c.from_residual-in_err-check_length-2.ensures.1 in
     ap in_numbers (p.1 ∙ ap Err p.2)
     ∙ ports_short x c.from-r.result c.args.lengths c.args.lent c.index-self-r.result c.if-r-self.false c.if-self-r.false
-    (test_passed _ _ c.in-ok-check-length.ensures) (fault_refusal f) c.in-err-check-length-2.ensures
+    (test_passed _ _ c.in_ok-check_length.ensures) (fault_refusal f) c.in_err-check_length-2.ensures
     ∙ ap (λ r. admission (responders_of x) x.port_count r c.args.lengths c.args.lent) c.from-r.ensures
 
 pub returns : goal.returns
 returns c =
     let x = c.args.self.now in
-    c.check-reply.ensures
+    c.check_reply.ensures
     ∙ last_test x c.from-r.result c.args.lengths c.args.lent c.index-self-r.result c.if-r-self.false c.if-self-r.false
-    (test_passed _ _ c.in-ok-check-length.ensures) (test_passed _ _ c.in-ok-check-length-2.ensures)
+    (test_passed _ _ c.in_ok-check_length.ensures) (test_passed _ _ c.in_ok-check_length-2.ensures)
     ∙ ap (λ r. admission (responders_of x) x.port_count r c.args.lengths c.args.lent) c.from-r.ensures

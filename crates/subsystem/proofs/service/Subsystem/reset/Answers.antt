@@ -27,14 +27,14 @@ returns-then-r-self g c =
       a_refusal_changes_nothing = λ _. (refl, refl);
     }
 
-pub returns-in-err-check-length : goal.returns-in-err-check-length
-returns-in-err-check-length g c =
+pub returns-in_err-check_length : goal.returns-in_err-check_length
+returns-in_err-check_length g c =
     let x = c.args.self.now in
     let m = g.R.Register.meaning c.args.register.now in
     let rows = c.args.rows.now in
-    let f = c.in-err-check-length.field-0.0 in
-    let p = err_from_is_err_and c.from-residual.result c.from-residual.ensures.1 in
-    let same : c.from-residual.result ≡ Err f = p.1 ∙ ap Err p.2 in
+    let f = c.in_err-check_length.field-0.0 in
+    let p = err_from_is_err_and c.from_residual.result c.from_residual.ensures.1 in
+    let same : c.from_residual.result ≡ Err f = p.1 ∙ ap Err p.2 in
     record {
       is_answered_and_done_as_the_model_says = λ rest ports.
           let s = state_of x m (rows ++ rest) ports in
@@ -42,20 +42,20 @@ returns-in-err-check-length g c =
           ∙ reset_taken s c.args.responder (length rows) (Err (fault_refusal f))
           (let y = responder_exists x m (rows ++ rest) ports c.args.responder (omega (arith, c.from-r.ensures)) in
           reset_tested x m (rows ++ rest) ports c.args.responder (length rows) y.0 y.1 (Err (fault_refusal f))
-          (by_needed (length rows) _ _ (Err (fault_refusal f)) c.needed_rows.ensures c.in-err-check-length.ensures));
+          (by_needed (length rows) _ _ (Err (fault_refusal f)) c.rows_needed.ensures c.in_err-check_length.ensures));
       a_refusal_changes_nothing = λ _. (refl, refl);
     }
 
-pub offset-bounds-rows-first : goal.offset-bounds-rows-first
-offset-bounds-rows-first g c =
-    let n : c.needed_rows.result ≡ c.args.self.now.responder_count * c.len-controllers.result = c.needed_rows.ensures ∙ ap (λ v. c.args.self.now.responder_count * v) (sym c.len-controllers.ensures) in
-    let h = own_rows_lent _ _ _ _ _ c.if-r-self.false c.first-row-first.ensures (subst (λ (v : ℕ). v ≤ length c.args.rows.now) n (ltb-false _ _ (test_passed _ _ c.in-ok-check-length.ensures))) in
+pub offset_bounds-rows-first : goal.offset_bounds-rows-first
+offset_bounds-rows-first g c =
+    let n : c.rows_needed.result ≡ c.args.self.now.responder_count * c.len-controllers.result = c.rows_needed.ensures ∙ ap (λ v. c.args.self.now.responder_count * v) (sym c.len-controllers.ensures) in
+    let h = own_rows_lent _ _ _ _ _ c.if-r-self.false c.first_row-first.ensures (subst (λ (v : ℕ). v ≤ length c.args.rows.now) n (ltb-false _ _ (test_passed _ _ c.in_ok-check_length.ensures))) in
     search rules
 
-pub slice-bounds-clear-rows-end : goal.slice-bounds-clear-rows-end
-slice-bounds-clear-rows-end g c =
-    let n : c.needed_rows.result ≡ c.args.self.now.responder_count * c.len-controllers.result = c.needed_rows.ensures ∙ ap (λ v. c.args.self.now.responder_count * v) (sym c.len-controllers.ensures) in
-    let h = own_rows_lent _ _ _ _ _ c.if-r-self.false c.first-row-first.ensures (subst (λ (v : ℕ). v ≤ length c.args.rows.now) n (ltb-false _ _ (test_passed _ _ c.in-ok-check-length.ensures))) in
+pub slice_bounds-clear_rows-end : goal.slice_bounds-clear_rows-end
+slice_bounds-clear_rows-end g c =
+    let n : c.rows_needed.result ≡ c.args.self.now.responder_count * c.len-controllers.result = c.rows_needed.ensures ∙ ap (λ v. c.args.self.now.responder_count * v) (sym c.len-controllers.ensures) in
+    let h = own_rows_lent _ _ _ _ _ c.if-r-self.false c.first_row-first.ensures (subst (λ (v : ℕ). v ≤ length c.args.rows.now) n (ltb-false _ _ (test_passed _ _ c.in_ok-check_length.ensures))) in
     omega arith
 
 pub returns : goal.returns
@@ -64,23 +64,23 @@ returns g c =
     let m = g.R.Register.meaning c.args.register.now in
     let rows = c.args.rows.now in
     let r = c.from-r.result in
-    let k = c.first-row-first.result in
+    let k = c.first_row-first.result in
     let n = k + c.len-controllers.result - k in
-    let part = c.clear-rows.new.rows in
+    let part = c.clear_rows.new.rows in
     let old = c.index-self-r.result in
     let en : n ≡ length m.controllers = omega (arith, c.len-controllers.ensures) in
-    let ek : k ≡ r * length m.controllers = c.first-row-first.ensures ∙ ap (λ v. r * v) c.len-controllers.ensures in
-    let tested = by_needed (length rows) _ _ (Ok tt) c.needed_rows.ensures c.in-ok-check-length.ensures in
+    let ek : k ≡ r * length m.controllers = c.first_row-first.ensures ∙ ap (λ v. r * v) c.len-controllers.ensures in
+    let tested = by_needed (length rows) _ _ (Ok tt) c.rows_needed.ensures c.in_ok-check_length.ensures in
     let room = ltb-false _ _ (test_passed _ _ tested) in
     let within = own_rows_lent r x.responder_count (length m.controllers) k (length rows) c.if-r-self.false ek room in
-    let long : length part ≡ length m.controllers = length_lent k (length m.controllers) n rows part en within c.clear-rows.auto.rows in
-    let cleared = c.clear-rows.ensures ∙ ap (λ v. replicate v clear_row) (sym c.clear-rows.auto.rows ∙ long) in
+    let long : length part ≡ length m.controllers = length_lent k (length m.controllers) n rows part en within c.clear_rows.auto.rows in
+    let cleared = c.clear_rows.ensures ∙ ap (λ v. replicate v clear_row) (sym c.clear_rows.auto.rows ∙ long) in
     record {
       is_answered_and_done_as_the_model_says = λ rest ports.
           let s = state_of x m (rows ++ rest) ports in
-          ap {B = Step} (λ v. record { answer = accepted; state = v }) (responder_replaced x m rows part rest ports r k n c.without-composite.result c.if-r-self.false ek en room long
-          ∙ ap (with_responders s) (same_change s.responders r _ (λ _. with_its_rows (responder_of c.without-composite.result) (map row_of part)) reset_responder (responder_there x m (rows ++ rest) ports r old c.if-r-self.false)
-          (is_reset (responder_of c.without-composite.result) (responder_of (get_or x.responders r old)) (map row_of part) _ (length m.controllers) c.without-composite.ensures cleared
+          ap {B = Step} (λ v. record { answer = accepted; state = v }) (responder_replaced x m rows part rest ports r k n c.without_composite.result c.if-r-self.false ek en room long
+          ∙ ap (with_responders s) (same_change s.responders r _ (λ _. with_its_rows (responder_of c.without_composite.result) (map row_of part)) reset_responder (responder_there x m (rows ++ rest) ports r old c.if-r-self.false)
+          (is_reset (responder_of c.without_composite.result) (responder_of (get_or x.responders r old)) (map row_of part) _ (length m.controllers) c.without_composite.ensures cleared
           (own_rows_length (length m.controllers) r k rows rest ek within))))
           ∙ reset_taken s r (length rows) (Ok tt) (let y = responder_exists x m (rows ++ rest) ports r c.if-r-self.false in reset_tested x m (rows ++ rest) ports r (length rows) y.0 y.1 (Ok tt) tested)
           ∙ ap (λ v. step s (reset v (length rows))) c.from-r.ensures;

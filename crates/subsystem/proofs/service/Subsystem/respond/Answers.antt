@@ -13,26 +13,26 @@ use Rattle.subsystem.proofs.OneResponder.{responder_there, responder_replaced, l
 use Rattle.subsystem.proofs.Responding.{same_served, data_fits, responds, ports_shown, own_rows_are}
 use Rattle.subsystem.proofs.service.Subsystem.respond.Goals as goal
 
-pub offset-bounds-rows-first : goal.offset-bounds-rows-first
-offset-bounds-rows-first g c =
+pub offset_bounds-rows-first : goal.offset_bounds-rows-first
+offset_bounds-rows-first g c =
     let room = subst (λ (v : ℕ). c.args.self.now.responder_count * v ≤ length c.args.rows.now) (sym c.len-controllers.ensures) c.requires.rows_for_all in
-    let h = own_rows_lent _ _ _ _ _ c.requires.a_responder_in_use c.first-row-first.ensures room in
+    let h = own_rows_lent _ _ _ _ _ c.requires.a_responder_in_use c.first_row-first.ensures room in
     search rules
 
-pub slice-bounds-answer-behind-head-end : goal.slice-bounds-answer-behind-head-end
-slice-bounds-answer-behind-head-end g c =
+pub slice_bounds-answer_behind_head-end : goal.slice_bounds-answer_behind_head-end
+slice_bounds-answer_behind_head-end g c =
     let room = subst (λ (v : ℕ). c.args.self.now.responder_count * v ≤ length c.args.rows.now) (sym c.len-controllers.ensures) c.requires.rows_for_all in
-    let h = own_rows_lent _ _ _ _ _ c.requires.a_responder_in_use c.first-row-first.ensures room in
+    let h = own_rows_lent _ _ _ _ _ c.requires.a_responder_in_use c.first_row-first.ensures room in
     omega arith
 
-pub write-head-before-requires : goal.write-head-before-requires
-write-head-before-requires g c =
+pub write_head_before-requires : goal.write_head_before-requires
+write_head_before-requires g c =
     let k = g.C.Carrier.meaning.head_length in
     let before = c.args.reply.now in
-    let middle = c.answer-behind-head-answered.new.reply in
+    let middle = c.answer_behind_head-answered.new.reply in
     let head = c.lengths-head.result.head in
-    let is = c.answer-behind-head-answered.ensures 0 in
-    let kept = c.answer-behind-head-answered.auto.reply in
+    let is = c.answer_behind_head-answered.ensures 0 in
+    let kept = c.answer_behind_head-answered.auto.reply in
     let same : head ≡ k = ap (λ v. v.head) c.lengths-head.ensures in
     let space = c.requires.space_for_the_reply in
     let a = length-drop head before in
@@ -50,14 +50,14 @@ returns g c = λ rest more x there.
     let s = state_of self m (rows ++ rest) (ports ++ more) in
     let r = c.args.responder in
     let n = length m.controllers in
-    let first = c.first-row-first.result in
+    let first = c.first_row-first.result in
     let count = first + c.len-controllers.result - first in
     let old = get_or self.responders r c.index-self-responder.result in
-    let answered = c.answer-behind-head-answered.result in
-    let part = c.answer-behind-head-answered.new.own in
+    let answered = c.answer_behind_head-answered.result in
+    let part = c.answer_behind_head-answered.new.own in
     let kind = old.kind in
     let en : count ≡ n = omega (arith, c.len-controllers.ensures) in
-    let ek : first ≡ r * n = c.first-row-first.ensures ∙ ap (λ v. r * v) c.len-controllers.ensures in
+    let ek : first ≡ r * n = c.first_row-first.ensures ∙ ap (λ v. r * v) c.len-controllers.ensures in
     let within = own_rows_lent r self.responder_count n first (length rows) c.requires.a_responder_in_use ek c.requires.rows_for_all in
     let lent = map row_of (mid_of first count rows) in
     let used = mid_of 0 (self.port_count - 0) ports in
@@ -71,9 +71,9 @@ returns g c = λ rest more x there.
     ∙ ap (λ y. served s.drive y c.args.asked) is_x in
     let k = g.C.Carrier.meaning in
     let head : c.lengths-head.result.head ≡ k.head_length = ap (λ l. l.head) c.lengths-head.ensures in
-    let is = subst (λ (h : ℕ). ReplyIs v kind answered (map row_of part) (drop h c.args.reply.now) (drop h c.answer-behind-head-answered.new.reply)) head (c.answer-behind-head-answered.ensures kind) in
-    let long = length_lent first n count rows part en within c.answer-behind-head-answered.auto.own in
-    responds k s r x c.args.asked v answered kind (map row_of part) _ c.args.reply.now c.answer-behind-head-answered.new.reply c.write-head-before.new.reply _ same is
-    c.write-head-before.ensures.answers_the_length c.write-head-before.ensures.writes_the_head
+    let is = subst (λ (h : ℕ). ReplyIs v kind answered (map row_of part) (drop h c.args.reply.now) (drop h c.answer_behind_head-answered.new.reply)) head (c.answer_behind_head-answered.ensures kind) in
+    let long = length_lent first n count rows part en within c.answer_behind_head-answered.auto.own in
+    responds k s r x c.args.asked v answered kind (map row_of part) _ c.args.reply.now c.answer_behind_head-answered.new.reply c.write_head_before.new.reply _ same is
+    c.write_head_before.ensures.answers_the_length c.write_head_before.ensures.writes_the_head
     (responder_replaced self m rows part rest (ports ++ more) r first count c.with_composite.result c.requires.a_responder_in_use ek en c.requires.rows_for_all long
     ∙ ap (λ h. with_responders s (at_place s.responders r (λ _. with_its_rows h (map row_of part)))) c.with_composite.ensures)
