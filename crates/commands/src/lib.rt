@@ -1,4 +1,6 @@
 // The four health commands, as an opcode and two dwords, and the data of their replies as bytes.
+#![tactic(auto)]
+
 mod command;
 mod controller_data;
 mod controller_poll;

@@ -1,4 +1,6 @@
 // Messages in print, for the programs: bytes as hex digits, and what requests and replies say, in words and numbers.
+#![tactic(auto)]
+
 mod hex;
 mod number;
 mod refusal;

@@ -1,6 +1,8 @@
 // A console for a subsystem: reads a script from standard input, a call a line, and answers each with a line, written at once.
 //
 // crates/drive/stdin shows every call, and README.md lists them.
+#![tactic(auto)]
+
 mod answer;
 mod call;
 mod drive_state;

@@ -1,4 +1,6 @@
 // A controller's health: the Controller Status word, the changed flags, the status events, reports, and the rows of a Responder.
+#![tactic(auto)]
+
 mod display;
 mod events;
 mod flag;

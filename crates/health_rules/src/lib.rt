@@ -1,4 +1,6 @@
 // The flag rule and the temperature code, for the library and, on plain numbers, for C.
+#![tactic(auto)]
+
 mod exports;
 mod flag_rule;
 mod levels;

@@ -2,6 +2,8 @@
 //
 // Reads lines from standard input: `endpoint request HEX`, `endpoint reply HEX`, the same with `tunnel`, and
 // `ask endpoint|tunnel COMMAND NAME=VALUE ..`. Without input it shows a built-in exchange.
+#![tactic(auto)]
+
 mod ask;
 mod capture;
 mod fault;

@@ -1,5 +1,5 @@
 -- Port links and drive status.
-use Rattle.std.specs.Prelude.{ℕ, ◌+◌, Bool, false, cond, not, ◌||◌, List, [], ◌∷◌, ◌++◌, take, drop, Some, None, Ok, Option, Result, ◌==◌, nat_le, nat_lt}
+use Rattle.std.specs.Prelude.{ℕ, Bool, false, cond, not, ◌||◌, List, [], ◌∷◌, ◌++◌, take, drop, Some, None, Ok, Option, Result, ◌==◌, nat_le, nat_lt}
 use Rattle.wire.specs.Refusals.{Refusal, refuse_if}
 use Rattle.register.specs.declared.port.Port.{Port}
 use Rattle.model.specs.State.{SubsystemStatus, Drive}

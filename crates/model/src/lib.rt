@@ -1,4 +1,6 @@
 // What a subsystem means: its state, what each call answers and does, histories of calls, and the law of independent polling.
+#![tactic(auto)]
+
 ghost use Rattle.std.specs.Prelude.{◌≡◌, ◌+◌, length};
 ghost use Rattle.model.specs.ReferenceCases.{expected_findings, ReferenceCasesFound};
 ghost use Rattle.model.specs.PageWalkExample.{page_count, PageWalkIsMet};

@@ -1,4 +1,6 @@
 // What a health poll writes and clears: the entries of a reply, the rows of one Responder, and the subsystem's health.
+#![tactic(auto)]
+
 mod entries;
 mod links;
 mod qualify;

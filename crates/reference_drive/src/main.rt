@@ -1,5 +1,7 @@
 // The reference drive: controller 1, two PCIe ports, two Management Endpoints and the in-band tunnel of the controller. The managers of the
 // endpoints and the host at the tunnel poll it once each; what they send and get is printed, in bytes and in words.
+#![tactic(auto)]
+
 mod fault;
 mod poll;
 mod power;

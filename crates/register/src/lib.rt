@@ -1,4 +1,6 @@
 // Registers of controllers, and the ports of the drive, in memory that the caller lends.
+#![tactic(auto)]
+
 mod controller;
 mod controllers;
 mod inline;

@@ -1,4 +1,6 @@
 // A health-polling subsystem: what the drive links. It is fitted out by `SubsystemBuilder`, opened, and then in service.
+#![tactic(auto)]
+
 mod answer;
 mod builder;
 mod builder_methods;

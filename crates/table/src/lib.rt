@@ -1,4 +1,6 @@
 // The ordered table: records that have a number, in memory that the caller lends.
+#![tactic(auto)]
+
 mod fault;
 mod number;
 mod ordered;

@@ -1,4 +1,6 @@
 // Requests and the heads of replies as bytes, over any carrier: a Management Endpoint's messages and a controller's in-band tunnel.
+#![tactic(auto)]
+
 mod carrier;
 mod endpoint;
 mod fault;
