@@ -1,13 +1,14 @@
 #!/usr/bin/env python3
-"""Calls that the check of the calling code must turn down: service on a subsystem that is not opened, additions to one that is.
+"""Calls that the compiler must turn down in the calling code: service on a subsystem that is not opened, additions to one that is.
 
 Each edit of crates/NAME/turned-down (file, old, new, and the error that must come) is made in a copy of the repository, where
 the crate must then no longer compile. `rt must-fail` takes edits that reach the prover; these do not get that far.
 It prints a line for each edit, and ends with status 0 where each is turned down and the crates compile without the edits.
 
-    .ci/turned_down.py          (after `rt check` or `rt ci`, whose target/ it reads: a few seconds)
+    .ci/turned_down.py          (under a minute: `rt try` compiles with no proof)
 """
 import pathlib
+import re
 import shutil
 import subprocess
 import sys
@@ -17,7 +18,7 @@ ROOT = pathlib.Path(__file__).resolve().parent.parent
 
 
 def compile_crate(copy, crate):
-    run = subprocess.run(["rt", "mir", crate], cwd=copy, stdin=subprocess.DEVNULL, stdout=subprocess.PIPE,
+    run = subprocess.run(["rt", "try"], cwd=copy / "crates" / crate, stdin=subprocess.DEVNULL, stdout=subprocess.PIPE,
                          stderr=subprocess.STDOUT, text=True)
     return run.returncode, run.stdout
 
@@ -36,7 +37,7 @@ def turned_down(copy, crate, edit):
     source.write_text(text.replace(old, new))
     status, said = compile_crate(copy, crate)
     source.write_text(text)
-    at = [line for line in said.splitlines() if f"error[{error}]" in line and f"crates/{crate}/{file}:" in line]
+    at = [line for line in said.splitlines() if f"error[{error}]" in line and re.match(rf"(\./)?{re.escape(file)}:", line)]
     if status == 0 or not at:
         return "NOT TURNED DOWN by " + error
     return "turned down: " + at[0][at[0].index("error["):].split(": help:")[0]
@@ -47,9 +48,8 @@ def main():
     good = bool(edits)
     with tempfile.TemporaryDirectory() as name:
         copy = pathlib.Path(name)
-        shutil.copytree(ROOT / "crates", copy / "crates")
+        shutil.copytree(ROOT / "crates", copy / "crates", ignore=shutil.ignore_patterns("out"))
         shutil.copy(ROOT / "crates.txt", copy)
-        (copy / "target").symlink_to(ROOT / "target")
         for crate in sorted({edit.parent.parent.name for edit in edits}):
             status, said = compile_crate(copy, crate)
             if status != 0:

@@ -1,6 +1,6 @@
 /*
  * The flag rule and the temperature code of the drive's health, on plain numbers.
- * Link libhealth_rules.a, which `rt staticlib health_rules` writes to target/staticlib/.
+ * Link libhealth_rules.a, which examples/c/run builds of the crate health_rules_c and writes to target/staticlib/.
  * Both functions take every argument, touch no memory and always return.
  */
 #ifndef HEALTH_RULES_H

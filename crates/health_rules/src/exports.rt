@@ -1,4 +1,4 @@
-// What the drive's C monitor calls, on plain numbers. include/health_rules.h declares the same.
+// What the drive's C monitor calls, on plain numbers: crates/health_rules_c exports both, and include/health_rules.h declares them.
 ghost use Rattle.std.specs.Prelude.{◌≡◌};
 ghost use Rattle.health_rules.specs.FlagRule.{exported};
 ghost use Rattle.health_rules.specs.Temperature.{code_of};
@@ -8,8 +8,7 @@ use crate::temperature::temperature_code;
 use health::{Health, Report};
 
 // The flag rule. A malformed report gets FFFFh. Old status bits above 5 are ignored.
-#[unsafe(no_mangle)]
-pub extern "C" fn changed_flags_gained(
+pub fn changed_flags_gained(
     old_status: u16,
     old_temperature: u16,
     old_percentage_used: u8,
@@ -44,8 +43,7 @@ pub extern "C" fn changed_flags_gained(
 }
 
 // The temperature code.
-#[unsafe(no_mangle)]
-pub extern "C" fn composite_temperature_code(kelvins: u16) -> u8
+pub fn composite_temperature_code(kelvins: u16) -> u8
     ensures { result ≡ code_of kelvins }
 {
     temperature_code(kelvins)

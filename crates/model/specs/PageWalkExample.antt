@@ -1,4 +1,4 @@
--- A history that meets every premise of composite-complete: Responder 0 clears composite flag CSTS, pages to the end, and then a report
+-- A history that meets every premise of composite_complete: Responder 0 clears composite flag CSTS, pages to the end, and then a report
 -- changes a status.
 use Rattle.std.specs.Prelude.{◌≡◌, ℕ, ◌+◌, true, false, List, [], ◌∷◌, ◌++◌, replicate}
 use Rattle.health.specs.Words.{bit}
@@ -91,7 +91,7 @@ pages_in (other_event w) = pages_in w
 abbrev pub page_count : ℕ
 page_count = 3
 
--- the premises of composite-complete, and what it concludes
+-- the premises of composite_complete, and what it concludes
 pub record PageWalkIsMet : Type 0 where
   -- the clearing succeeds
   pub cleared : ClearsComposite 0 8 (event (after start earlier) clearing)

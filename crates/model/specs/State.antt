@@ -16,7 +16,7 @@ pub record SubsystemStatus : Type 0 where
   pub reset_not_required : Bool
   pub sanitize_failed : Bool
 
--- what belongs to no Responder: the first `port-count` of the port records are in use
+-- what belongs to no Responder: the first `port_count` of the port records are in use
 pub record Drive : Type 0 where
   pub register : RegisterValues
   pub status : SubsystemStatus
