@@ -1,1 +1,1 @@
-pub mod Bitwise
+pub mod Masks

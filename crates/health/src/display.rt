@@ -1,4 +1,5 @@
 // The words of bits in print: the number, then the standard's abbreviation of each bit that is set.
+use crate::bits::{Bits, NamedBit};
 use crate::flag::ChangedFlag;
 use crate::flags::ChangedFlags;
 use crate::status::ControllerStatus;
@@ -31,16 +32,25 @@ const STATUS_BITS: [StatusBit; 7] = [
     StatusBit::Tcida,
 ];
 
+// The names of the bits that are set, each behind a space.
+fn write_names<const MASK: u16, B: NamedBit<MASK> + fmt::Display, W: fmt::Write>(
+    word: Bits<MASK>,
+    names: &[B],
+    f: &mut fmt::Formatter<W>,
+) -> fmt::Result {
+    for name in names {
+        if word.has(*name) {
+            write!(f, " {name}")?;
+        }
+    }
+    Ok(())
+}
+
 impl fmt::Display for ChangedFlags {
     fn fmt<W: fmt::Write>(&self, f: &mut fmt::Formatter<W>) -> fmt::Result {
         let bits = self.bits();
         write!(f, "{bits:04X}h")?;
-        for flag in FLAGS {
-            if self.has(flag) {
-                write!(f, " {flag}")?;
-            }
-        }
-        Ok(())
+        write_names(*self, &FLAGS, f)
     }
 }
 
@@ -49,11 +59,6 @@ impl fmt::Display for ControllerStatus {
         let bits = self.bits();
         let shutdown = self.shutdown_status();
         write!(f, "{bits:04X}h SHST={shutdown}")?;
-        for status_bit in STATUS_BITS {
-            if self.has(status_bit) {
-                write!(f, " {status_bit}")?;
-            }
-        }
-        Ok(())
+        write_names(*self, &STATUS_BITS, f)
     }
 }

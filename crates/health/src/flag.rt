@@ -1,6 +1,7 @@
-ghost use Rattle.std.specs.Prelude.{◌≡◌, ◌<◌};
 ghost use Rattle.health.specs.Flags.{flag_number};
 
+use crate::bits::NamedBit;
+use crate::flags::FLAGS;
 use std::fmt;
 
 // One changed flag, of a controller or composite, by its bit number.
@@ -21,12 +22,11 @@ pub enum ChangedFlag {
     Tcida = 13,
 }
 
-impl ChangedFlag {
+impl NamedBit<FLAGS> for ChangedFlag {
+    ghost bit_number = { flag_number };
+
     // The bit of a flags word that holds this flag.
-    pub fn number(self) -> u16
-        ensures is_the_bit_of_the_flag { result ≡ flag_number self }
-        ensures within_the_word { result < 16 }
-    {
+    fn number(self) -> u16 {
         self as u16
     }
 }

@@ -1,6 +1,7 @@
 // A controller's health: the Controller Status word, the changed flags, the status events, reports, and the rows of a Responder.
 #![tactic(auto)]
 
+mod bits;
 mod display;
 mod events;
 mod flag;
@@ -10,8 +11,8 @@ mod row;
 mod status;
 mod status_bit;
 mod values;
-mod word;
 
+pub use bits::{Bits, NamedBit};
 pub use events::StatusEvents;
 pub use flag::ChangedFlag;
 pub use flags::ChangedFlags;

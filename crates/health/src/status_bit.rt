@@ -1,6 +1,7 @@
-ghost use Rattle.std.specs.Prelude.{◌≡◌, ◌<◌};
 ghost use Rattle.health.specs.Status.{status_bit_number};
 
+use crate::bits::NamedBit;
+use crate::status::STATUS;
 use std::fmt;
 
 // One bit of the Controller Status word, by its number. Bits 3:2 are the Shutdown Status.
@@ -15,11 +16,10 @@ pub enum StatusBit {
     Tcida = 8,
 }
 
-impl StatusBit {
-    pub fn number(self) -> u16
-        ensures is_the_bit_of_the_word { result ≡ status_bit_number self }
-        ensures within_the_word { result < 16 }
-    {
+impl NamedBit<STATUS> for StatusBit {
+    ghost bit_number = { status_bit_number };
+
+    fn number(self) -> u16 {
         self as u16
     }
 }
