@@ -1,5 +1,5 @@
 -- The flag rule: which changed flags a report gains, old health against report.
-use Rattle.std.specs.Prelude.{ℕ, ◌+◌, ◌/◌, ◌%◌, ◌^◌, Bool, cond, not, ◌&&◌, ◌||◌, List, [], ◌∷◌, ◌++◌, ◌==◌}
+use Rattle.std.specs.Prelude.{ℕ, ◌+◌, ◌/◌, ◌%◌, ◌^◌, Bool, if◌then◌else◌, not, ◌&&◌, ◌||◌, List, [], ◌∷◌, ◌++◌, ◌==◌}
 use Rattle.health.specs.Words.{bit}
 use Rattle.health.specs.Status.{levels_in}
 use Rattle.health.specs.Values.{HealthValues, reported_health, well_formed}
@@ -50,7 +50,7 @@ field_gains old new =
 -- the word of the flags that are gained
 abbrev pub word_of : List Gain → ℕ
 word_of [] = 0
-word_of (g ∷ gs) = cond g.when (2 ^ g.flag) 0 + word_of gs
+word_of (g ∷ gs) = (if g.when then 2 ^ g.flag else 0) + word_of gs
 
 -- the flags that a report gains against the health held before
 abbrev pub gained : HealthValues → Report → ℕ
@@ -58,4 +58,4 @@ gained old new = word_of (status_gains old.levels new.status ++ field_gains old 
 
 -- what C is told: the old health is that of a report, and FFFFh stands for a malformed new one
 abbrev pub exported : Report → Report → ℕ
-exported old new = cond (well_formed new) (gained (reported_health old) new) 0xffff
+exported old new = if well_formed new then gained (reported_health old) new else 0xffff

@@ -1,3 +1,2 @@
 pub mod FlagRule
-pub mod FlagParts
 pub mod Temperature

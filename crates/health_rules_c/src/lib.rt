@@ -5,6 +5,9 @@ ghost use Rattle.std.specs.Prelude.{◌≡◌};
 ghost use Rattle.health_rules.specs.FlagRule.{exported};
 ghost use Rattle.health_rules.specs.Temperature.{code_of};
 
+use health::Report;
+use health_rules::temperature_code;
+
 // The flag rule. A malformed report gets FFFFh. Old status bits above 5 are ignored.
 #[unsafe(no_mangle)]
 pub extern "C" fn changed_flags_gained(
@@ -21,18 +24,21 @@ pub extern "C" fn changed_flags_gained(
 ) -> u16
     ensures { result ≡ exported (record { status = old_status; temperature = old_temperature; percentage_used = old_percentage_used; available_spare = old_available_spare; critical_warning = old_critical_warning }) (record { status = status; temperature = temperature; percentage_used = percentage_used; available_spare = available_spare; critical_warning = critical_warning }) }
 {
-    health_rules::changed_flags_gained(
-        old_status,
-        old_temperature,
-        old_percentage_used,
-        old_available_spare,
-        old_critical_warning,
+    let old = Report {
+        status: old_status,
+        temperature: old_temperature,
+        percentage_used: old_percentage_used,
+        available_spare: old_available_spare,
+        critical_warning: old_critical_warning,
+    };
+    let new = Report {
         status,
         temperature,
         percentage_used,
         available_spare,
         critical_warning,
-    )
+    };
+    health_rules::changed_flags_gained(old, new).map_or(0xffff, |flags| flags.bits())
 }
 
 // The temperature code.
@@ -40,5 +46,5 @@ pub extern "C" fn changed_flags_gained(
 pub extern "C" fn composite_temperature_code(kelvins: u16) -> u8
     ensures { result ≡ code_of kelvins }
 {
-    health_rules::composite_temperature_code(kelvins)
+    temperature_code(kelvins)
 }
