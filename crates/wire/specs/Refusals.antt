@@ -1,5 +1,5 @@
 -- Refusals in numbers.
-use Rattle.std.specs.Prelude.{◌≡◌, ℕ, Bool, true, false, cond, Ok, Err, Result, refl}
+use Rattle.std.specs.Prelude.{◌≡◌, ℕ, Bool, true, false, if◌then◌else◌, Ok, Err, Result, refl}
 use Rattle.wire.specs.declared.fault.WireFault.{WireFault}
 use Rattle.wire.specs.declared.fault.WireFault.TheVariants.{SpaceTooShort, CutShort, WrongFirstByte, WrongMessageType, WrongDirection}
 
@@ -37,14 +37,18 @@ refusal WrongFirstByte = wrong_first_byte
 refusal (WrongMessageType place) = wrong_message_type place
 refusal WrongDirection = wrong_direction
 
+-- an answer of the code, its fault as the refusal that it is
+abbrev pub with_refusals : {A E : Type 0} → (E → Refusal) → Result A E → Result A Refusal
+with_refusals refused (Ok answer) = Ok answer
+with_refusals refused (Err fault) = Err (refused fault)
+
 -- an answer of the code, its fault in numbers
 abbrev pub in_numbers : {A : Type 0} → Result A WireFault → Result A Refusal
-in_numbers (Ok answer) = Ok answer
-in_numbers (Err fault) = Err (refusal fault)
+in_numbers r = with_refusals refusal r
 
 -- refused where the test holds, else what follows
 abbrev pub refuse_if : {A : Type 0} → Bool → Refusal → Result A Refusal → Result A Refusal
-refuse_if test refused rest = cond test (Err refused) rest
+refuse_if test refused rest = if test then Err refused else rest
 
 -- what is refused is refused by a carrier
 abbrev pub AtLayer3 : {A : Type 0} → Result A Refusal → Type 0

@@ -1,4 +1,4 @@
-ghost use Rattle.std.specs.Prelude.{◌≡◌};
+ghost use Rattle.std.specs.Prelude.{◌≡◌, ℕ};
 ghost use Rattle.wire.specs.Meaning.{CarrierMeaning, lengths_of};
 ghost use Rattle.wire.specs.Refusals.{in_numbers};
 ghost use Rattle.wire.specs.Space.{length_written, space_after};
@@ -11,16 +11,31 @@ use crate::message::{Command, Head, Lengths, Request};
 pub trait Carrier {
     // 1 to 255
     const KIND: u8;
+
+    ghost KIND: { ℕ };
+
     // the length of a reply's head, at most 80
     const HEAD: usize;
+
+    ghost HEAD: { ℕ };
+
     // the length of a request as it is written, at most 128
     const REQUEST: usize;
 
+    ghost REQUEST: { ℕ };
+
     ghost meaning: { CarrierMeaning };
 
-    // The three constants, for generic code: of a constant itself it knows nothing.
+    // The three constants.
     fn lengths() -> Lengths
-        ensures { result ≡ lengths_of meaning };
+        ensures { result ≡ lengths_of meaning }
+    {
+        Lengths {
+            kind: Self::KIND,
+            head: Self::HEAD,
+            request: Self::REQUEST,
+        }
+    }
 
     // Bytes read as a request.
     fn read_request(bytes: &[u8]) -> Result<Request, WireFault>
@@ -39,4 +54,11 @@ pub trait Carrier {
     // The head that a reply begins with.
     fn read_head(bytes: &[u8]) -> Result<Head, WireFault>
         ensures { in_numbers result ≡ meaning.read_head bytes.now };
+
+    // The constants are those of the meaning.
+    ghost kind_is_meant: { KIND ≡ meaning.kind };
+
+    ghost head_is_meant: { HEAD ≡ meaning.head_length };
+
+    ghost request_is_meant: { REQUEST ≡ meaning.request_length };
 }

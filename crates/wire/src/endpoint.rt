@@ -1,8 +1,11 @@
+ghost use Rattle.std.specs.Prelude.{refl};
 ghost use Rattle.wire.specs.Endpoint.{endpoint};
 
 use crate::carrier::Carrier;
 use crate::fault::WireFault;
-use crate::message::{Command, Head, Lengths, Request};
+use crate::message::{Command, Head, Request};
+use crate::nmp::{Ror, check_nmp};
+use crate::space::write_front;
 
 // NVMe-MI messages of a Management Endpoint, without the transport's packets and integrity check.
 #[derive(Clone, Copy)]
@@ -14,19 +17,17 @@ const MESSAGE_TYPE: u8 = 0x84;
 impl Carrier for Endpoint {
     const KIND: u8 = 1;
 
+    ghost KIND = { 1 };
+
     const HEAD: usize = 8;
+
+    ghost HEAD = { 8 };
 
     const REQUEST: usize = 16;
 
-    ghost meaning = { endpoint };
+    ghost REQUEST = { 16 };
 
-    fn lengths() -> Lengths {
-        Lengths {
-            kind: Self::KIND,
-            head: Self::HEAD,
-            request: Self::REQUEST,
-        }
-    }
+    ghost meaning = { endpoint };
 
     fn read_request(bytes: &[u8]) -> Result<Request, WireFault> {
         let [
@@ -54,9 +55,7 @@ impl Carrier for Endpoint {
         if *first != MESSAGE_TYPE {
             return Err(WireFault::WrongFirstByte);
         }
-        if *nmp >> 7 != 0 || (*nmp >> 3) % 16 != 1 {
-            return Err(WireFault::WrongMessageType { place: 1 });
-        }
+        check_nmp(*nmp, Ror::Request, 1)?;
         Ok(Request {
             tag: *nmp % 2 == 1,
             command: Command {
@@ -70,11 +69,6 @@ impl Carrier for Endpoint {
     }
 
     fn write_request(tag: bool, command: Command, space: &mut [u8]) -> Result<usize, WireFault> {
-        if space.len() < Self::REQUEST {
-            return Err(WireFault::SpaceTooShort {
-                needed: Self::REQUEST,
-            });
-        }
         let nmp = if tag { 0x09 } else { 0x08 };
         let [a0, a1, a2, a3] = command.nmd0.to_le_bytes();
         let [b0, b1, b2, b3] = command.nmd1.to_le_bytes();
@@ -96,18 +90,13 @@ impl Carrier for Endpoint {
             b2,
             b3,
         ];
-        space[0..Self::REQUEST].copy_from_slice(&message);
-        Ok(Self::REQUEST)
+        write_front(&message, space)
     }
 
     fn write_head(tag: bool, head: Head, space: &mut [u8]) -> Result<usize, WireFault> {
-        if space.len() < Self::HEAD {
-            return Err(WireFault::SpaceTooShort { needed: Self::HEAD });
-        }
         let nmp = if tag { 0x89 } else { 0x88 };
         let [n0, n1, n2, _] = head.nmresp.to_le_bytes();
-        space[0..Self::HEAD].copy_from_slice(&[MESSAGE_TYPE, nmp, 0, 0, head.status, n0, n1, n2]);
-        Ok(Self::HEAD)
+        write_front(&[MESSAGE_TYPE, nmp, 0, 0, head.status, n0, n1, n2], space)
     }
 
     fn read_head(bytes: &[u8]) -> Result<Head, WireFault> {
@@ -117,12 +106,16 @@ impl Carrier for Endpoint {
         if *first != MESSAGE_TYPE {
             return Err(WireFault::WrongFirstByte);
         }
-        if *nmp >> 7 != 1 || (*nmp >> 3) % 16 != 1 {
-            return Err(WireFault::WrongMessageType { place: 1 });
-        }
+        check_nmp(*nmp, Ror::Reply, 1)?;
         Ok(Head {
             status: *status,
             nmresp: u32::from_le_bytes([*n0, *n1, *n2, 0]),
         })
     }
+
+    ghost kind_is_meant = { refl };
+
+    ghost head_is_meant = { refl };
+
+    ghost request_is_meant = { refl };
 }

@@ -1,10 +1,11 @@
-ghost use Rattle.std.specs.Prelude.{◌≡◌};
 ghost use Rattle.wire.specs.Refusals.{refusal};
 
+use crate::refused::Refused;
+use std::error::Error;
 use std::fmt;
 
 // Why bytes are refused, or a message is not written.
-#[derive(Clone, Copy)]
+#[derive(Clone, Copy, Debug, PartialEq, Eq)]
 pub enum WireFault {
     // The space lent for writing is shorter than needed.
     SpaceTooShort { needed: usize },
@@ -18,11 +19,10 @@ pub enum WireFault {
     WrongDirection,
 }
 
-impl WireFault {
-    // The number of the refusal.
-    pub fn number(self) -> u8
-        ensures { result ≡ (refusal self).number }
-    {
+impl Refused for WireFault {
+    ghost refusal = { refusal };
+
+    fn number(self) -> u8 {
         match self {
             WireFault::SpaceTooShort { .. } => 2,
             WireFault::CutShort { .. } => 3,
@@ -32,20 +32,14 @@ impl WireFault {
         }
     }
 
-    // The layer that refuses: 1 the subsystem or the asking end, 3 a carrier.
-    pub fn layer(self) -> u8
-        ensures { result ≡ (refusal self).layer }
-    {
+    fn layer(self) -> u8 {
         match self {
             WireFault::SpaceTooShort { .. } => 1,
             _ => 3,
         }
     }
 
-    // The length needed or found, or the byte at fault.
-    pub fn place(self) -> usize
-        ensures { result ≡ (refusal self).place }
-    {
+    fn place(self) -> usize {
         match self {
             WireFault::SpaceTooShort { needed } => needed,
             WireFault::CutShort { found } => found,
@@ -55,6 +49,8 @@ impl WireFault {
         }
     }
 }
+
+impl Error for WireFault {}
 
 impl fmt::Display for WireFault {
     fn fmt<W: fmt::Write>(&self, f: &mut fmt::Formatter<W>) -> fmt::Result {

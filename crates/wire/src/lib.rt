@@ -5,14 +5,18 @@ mod carrier;
 mod endpoint;
 mod fault;
 mod message;
+mod nmp;
+mod refused;
 mod reply;
 mod round_trip;
+mod space;
 mod tunnel;
 
 pub use carrier::Carrier;
 pub use endpoint::Endpoint;
 pub use fault::WireFault;
 pub use message::{Command, Head, Lengths, Request};
+pub use refused::Refused;
 pub use reply::{Reply, read_reply};
 pub use round_trip::{head_round_trip, request_round_trip};
 pub use tunnel::Tunnel;

@@ -4,7 +4,7 @@ ghost use Rattle.wire.specs.Replies.{reply_read};
 
 use crate::carrier::Carrier;
 use crate::fault::WireFault;
-use crate::message::{Head, Lengths};
+use crate::message::Head;
 
 // A reply: its head, and the response data behind it.
 #[derive(Clone, Copy)]
@@ -17,13 +17,12 @@ pub struct Reply<'a> {
 pub fn read_reply<C: Carrier>(bytes: &[u8]) -> Result<Reply<'_>, WireFault>
     ensures { elim result [ Ok p ↦ reply_read C.Carrier.meaning bytes.now ≡ Ok (record { head = p.head; payload = p.payload.now }) | Err e ↦ reply_read C.Carrier.meaning bytes.now ≡ Err (refusal e) ] }
 {
-    let Lengths { head: length, .. } = C::lengths();
-    if bytes.len() < length {
+    if bytes.len() < C::HEAD {
         return Err(WireFault::CutShort { found: bytes.len() });
     }
     let head = C::read_head(bytes)?;
     Ok(Reply {
         head,
-        payload: &bytes[length..],
+        payload: &bytes[C::HEAD..],
     })
 }

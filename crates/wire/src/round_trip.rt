@@ -8,33 +8,6 @@ use crate::carrier::Carrier;
 use crate::fault::WireFault;
 use crate::message::{Command, Head, Request};
 
-// Writes a request to lent space, and reads it back.
-fn write_and_read_request<C: Carrier>(
-    tag: bool,
-    command: Command,
-    space: &mut [u8],
-) -> Result<Request, WireFault>
-    ensures reads_back_as_itself_with_tag_0 { tag ≡ false → in_numbers result ≡ request_itself C.Carrier.meaning command space.old }
-    ensures writes_these_bytes_and_no_other { space.new ≡ space_after C.Carrier.meaning.request_length (C.Carrier.meaning.write_request tag command) space.old }
-{
-    let length = C::write_request(tag, command, space)?;
-    C::read_request(&space[0..length])
-}
-
-// Writes a head to lent space, and reads it back.
-fn write_and_read_head<C: Carrier>(
-    tag: bool,
-    head: Head,
-    space: &mut [u8],
-) -> Result<Head, WireFault>
-    ensures reads_what_was_written { in_numbers result ≡ head_read C.Carrier.meaning tag head space.old }
-    ensures reads_back_as_itself { head.nmresp < 2 ^ 24 → in_numbers result ≡ head_itself C.Carrier.meaning head space.old }
-    ensures writes_these_bytes_and_no_other { space.new ≡ space_after C.Carrier.meaning.head_length (C.Carrier.meaning.write_head tag head) space.old }
-{
-    let length = C::write_head(tag, head, space)?;
-    C::read_head(&space[0..length])
-}
-
 // A request written with tag 0 reads back as itself, over any carrier.
 pub fn request_round_trip<C: Carrier>(
     command: Command,
@@ -43,7 +16,8 @@ pub fn request_round_trip<C: Carrier>(
     ensures reads_back_as_itself { in_numbers result ≡ request_itself C.Carrier.meaning command space.old }
     ensures writes_these_bytes_and_no_other { space.new ≡ space_after C.Carrier.meaning.request_length (C.Carrier.meaning.write_request false command) space.old }
 {
-    write_and_read_request::<C>(false, command, space)
+    let length = C::write_request(false, command, space)?;
+    C::read_request(&space[..length])
 }
 
 // The head of the reply to a request reads back as itself, over any carrier and whatever the request's tag.
@@ -56,5 +30,6 @@ pub fn head_round_trip<C: Carrier>(
     ensures reads_back_as_itself { head.nmresp < 2 ^ 24 → in_numbers result ≡ head_itself C.Carrier.meaning head space.old }
     ensures writes_these_bytes_and_no_other { space.new ≡ space_after C.Carrier.meaning.head_length (C.Carrier.meaning.write_head request.tag head) space.old }
 {
-    write_and_read_head::<C>(request.tag, head, space)
+    let length = C::write_head(request.tag, head, space)?;
+    C::read_head(&space[..length])
 }

@@ -1,9 +1,11 @@
-ghost use Rattle.std.specs.Prelude.{◌≡◌};
+ghost use Rattle.std.specs.Prelude.{◌≡◌, refl};
 ghost use Rattle.wire.specs.Tunnel.{tunnel, direction};
 
 use crate::carrier::Carrier;
 use crate::fault::WireFault;
-use crate::message::{Command, Head, Lengths, Request};
+use crate::message::{Command, Head, Request};
+use crate::nmp::{Ror, check_nmp};
+use crate::space::write_front;
 
 // A controller's in-band tunnel: a request is a 64-byte submission entry of NVMe-MI Send or NVMe-MI Receive.
 #[derive(Clone, Copy)]
@@ -29,19 +31,17 @@ fn direction_of(opcode: u8) -> u8
 impl Carrier for Tunnel {
     const KIND: u8 = 2;
 
+    ghost KIND = { 2 };
+
     const HEAD: usize = 4;
+
+    ghost HEAD = { 4 };
 
     const REQUEST: usize = 64;
 
-    ghost meaning = { tunnel };
+    ghost REQUEST = { 64 };
 
-    fn lengths() -> Lengths {
-        Lengths {
-            kind: Self::KIND,
-            head: Self::HEAD,
-            request: Self::REQUEST,
-        }
-    }
+    ghost meaning = { tunnel };
 
     fn read_request(bytes: &[u8]) -> Result<Request, WireFault> {
         if bytes.len() != Self::REQUEST {
@@ -50,9 +50,7 @@ impl Carrier for Tunnel {
         if bytes[0] != SEND && bytes[0] != RECEIVE {
             return Err(WireFault::WrongFirstByte);
         }
-        if bytes[41] >> 7 != 0 || (bytes[41] >> 3) % 16 != 1 {
-            return Err(WireFault::WrongMessageType { place: 41 });
-        }
+        check_nmp(bytes[41], Ror::Request, 41)?;
         if bytes[0] != direction_of(bytes[44]) {
             return Err(WireFault::WrongDirection);
         }
@@ -70,11 +68,6 @@ impl Carrier for Tunnel {
 
     // A submission entry has no tag.
     fn write_request(_tag: bool, command: Command, space: &mut [u8]) -> Result<usize, WireFault> {
-        if space.len() < Self::REQUEST {
-            return Err(WireFault::SpaceTooShort {
-                needed: Self::REQUEST,
-            });
-        }
         let [a0, a1, a2, a3] = command.nmd0.to_le_bytes();
         let [b0, b1, b2, b3] = command.nmd1.to_le_bytes();
         let mut entry = [0u8; 64];
@@ -89,18 +82,13 @@ impl Carrier for Tunnel {
         entry[53] = b1;
         entry[54] = b2;
         entry[55] = b3;
-        space[0..Self::REQUEST].copy_from_slice(&entry);
-        Ok(Self::REQUEST)
+        write_front(&entry, space)
     }
 
     // Nor has a head.
     fn write_head(_tag: bool, head: Head, space: &mut [u8]) -> Result<usize, WireFault> {
-        if space.len() < Self::HEAD {
-            return Err(WireFault::SpaceTooShort { needed: Self::HEAD });
-        }
         let [n0, n1, n2, _] = head.nmresp.to_le_bytes();
-        space[0..Self::HEAD].copy_from_slice(&[head.status, n0, n1, n2]);
-        Ok(Self::HEAD)
+        write_front(&[head.status, n0, n1, n2], space)
     }
 
     fn read_head(bytes: &[u8]) -> Result<Head, WireFault> {
@@ -112,4 +100,10 @@ impl Carrier for Tunnel {
             nmresp: u32::from_le_bytes([*n0, *n1, *n2, 0]),
         })
     }
+
+    ghost kind_is_meant = { refl };
+
+    ghost head_is_meant = { refl };
+
+    ghost request_is_meant = { refl };
 }
