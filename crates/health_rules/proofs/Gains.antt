@@ -1,5 +1,5 @@
 -- What the masks and shifts of the flag rule come to, bit by bit.
-use Rattle.std.proofs.Common.{◌≡◌, ℕ, ◌+◌, ◌-◌, ◌*◌, ◌/◌, ◌%◌, ◌^◌, ◌<◌, ◌≤◌, min, max, take, Bool, true, false, cond, not, ◌&&◌, ◌||◌, eqb, ◌⊎◌, sym, refl, ap, ◌∙◌, one-mul, zero-mul, arith}
+use Rattle.std.proofs.Common.{◌≡◌, ℕ, ◌+◌, ◌-◌, ◌*◌, ◌/◌, ◌%◌, ◌^◌, ◌<◌, ◌≤◌, min, max, Bool, true, false, cond, not, ◌&&◌, ◌||◌, eqb, ◌⊎◌, sym, refl, ap, ◌∙◌, one-mul, zero-mul, arith}
 use lib.Bits.{bit_and, bit_or, bit_xor, and_high, and_mask, or_shifted_r, and_le_l, and_le_r, xor_mod, xor_add_and, xor_self}
 use Rattle.std.specs.Int.{from_bool}
 use Rattle.std.proofs.lemmas.Bool.Decides.{nat_tests}
@@ -16,34 +16,34 @@ weigh : (b : Bool) (w : ℕ) → cond b w 0 ≡ from_bool b * w
 weigh true w = sym (one-mul w)
 weigh false w = sym (zero-mul w)
 
-digit_le : (b : Bool) → from_bool b ≤ 1
-digit_le true = omega arith
-digit_le false = omega arith
+from_bool_le : (b : Bool) → from_bool b ≤ 1
+from_bool_le true = omega arith
+from_bool_le false = omega arith
 
-digit_or : (a b : Bool) → from_bool (a || b) ≡ max (from_bool a) (from_bool b)
-digit_or true true = refl
-digit_or true false = refl
-digit_or false true = refl
-digit_or false false = refl
+from_bool_or : (a b : Bool) → from_bool (a || b) ≡ max (from_bool a) (from_bool b)
+from_bool_or true true = refl
+from_bool_or true false = refl
+from_bool_or false true = refl
+from_bool_or false false = refl
 
-digit_and : (a b : Bool) → from_bool (a && b) ≡ min (from_bool a) (from_bool b)
-digit_and true true = refl
-digit_and true false = refl
-digit_and false true = refl
-digit_and false false = refl
+from_bool_and : (a b : Bool) → from_bool (a && b) ≡ min (from_bool a) (from_bool b)
+from_bool_and true true = refl
+from_bool_and true false = refl
+from_bool_and false true = refl
+from_bool_and false false = refl
 
-digit_not : (a : Bool) → from_bool (not a) ≡ 1 - from_bool a
-digit_not true = refl
-digit_not false = refl
+from_bool_not : (a : Bool) → from_bool (not a) ≡ 1 - from_bool a
+from_bool_not true = refl
+from_bool_not false = refl
 
-digit_bit : (n : ℕ) → from_bool (eqb (n % 2) 1) ≡ n % 2
-digit_bit n = grind (arith, nat_tests)
+from_bool_bit : (n : ℕ) → from_bool (eqb (n % 2) 1) ≡ n % 2
+from_bool_bit n = grind (arith, nat_tests)
 
-digit_differs : (a b : ℕ) → from_bool (not (eqb (a % 2) (b % 2))) ≡ (a % 2 + b % 2) % 2
-digit_differs a b = grind (arith, nat_tests)
+from_bool_differs : (a b : ℕ) → from_bool (not (eqb (a % 2) (b % 2))) ≡ (a % 2 + b % 2) % 2
+from_bool_differs a b = grind (arith, nat_tests)
 
-digit_unequal : (a b : ℕ) → ((a ≡ b) × (from_bool (not (eqb a b)) ≡ 0)) ⊎ ((a ≡ b → ⊥) × (from_bool (not (eqb a b)) ≡ 1))
-digit_unequal a b = grind (arith, nat_tests)
+from_bool_unequal : (a b : ℕ) → ((a ≡ b) × (from_bool (not (eqb a b)) ≡ 0)) ⊎ ((a ≡ b → ⊥) × (from_bool (not (eqb a b)) ≡ 1))
+from_bool_unequal a b = grind (arith, nat_tests)
 
 -- parts in ascending places join by addition
 push : (k acc v part : ℕ) → part ≡ v * 2 ^ k → acc < 2 ^ k → bit_or acc part ≡ v * 2 ^ k + acc
@@ -60,7 +60,7 @@ module _ (o s : ℕ) where
   d_bit k h =
       let m = bit_at_and (bit_xor o s) 63 k in
       let x = bit_at_xor o s k in
-      omega (arith, digit_differs (o / 2 ^ k) (s / 2 ^ k))
+      omega (arith, from_bool_differs (o / 2 ^ k) (s / 2 ^ k))
 
   d_lt : d < 64
   d_lt = omega (arith, and_le_r (bit_xor o s) 63)
@@ -85,13 +85,13 @@ module _ (o s : ℕ) where
 
   csts_is : from_bool (not (eqb any 0)) ≡ from_bool (level_differs o s || event_reported s)
   csts_is =
-      let either = digit_or (level_differs o s) (event_reported s) in
-      let h1 = digit_or (bit s 6) (bit s 7 || bit s 8) in
-      let h2 = digit_or (bit s 7) (bit s 8) in
-      let b6 = digit_bit (s / 64) in
-      let b7 = digit_bit (s / 128) in
-      let b8 = digit_bit (s / 256) in
-      grind (arith, any_is, same_from_d, d_from_same, digit_unequal any 0, digit_unequal (o % 64) (s % 64))
+      let either = from_bool_or (level_differs o s) (event_reported s) in
+      let h1 = from_bool_or (bit s 6) (bit s 7 || bit s 8) in
+      let h2 = from_bool_or (bit s 7) (bit s 8) in
+      let b6 = from_bool_bit (s / 64) in
+      let b7 = from_bool_bit (s / 128) in
+      let b8 = from_bool_bit (s / 256) in
+      grind (arith, any_is, same_from_d, d_from_same, from_bool_unequal any 0, from_bool_unequal (o % 64) (s % 64))
 
   ready_is : bit_and d 0x03 ≡ from_bool (differs o s 0) + from_bool (differs o s 1) * 2
   ready_is = omega (arith, and_mask d 2, d_bit 0 refl, d_bit 1 refl)
@@ -102,21 +102,21 @@ module _ (o s : ℕ) where
       let right : d / 2 / 4 % 2 ≡ from_bool (differs o s 3) = ap (λ n. n % 2) q ∙ d_bit 3 refl in
       let joined =
       bit_at_or d (d / 2) 2 ∙ ap (λ n. max n (d / 2 / 4 % 2)) (d_bit 2 refl) ∙ ap (max (from_bool (differs o s 2))) right
-      ∙ sym (digit_or (differs o s 2) (differs o s 3)) in
+      ∙ sym (from_bool_or (differs o s 2) (differs o s 3)) in
       and_high (bit_or d (d / 2)) 1 2 ∙ ap (λ n. n * 4) joined
 
   reset_is : bit_and (bit_and d s) 0x10 ≡ from_bool (rises o s 4) * 16
   reset_is =
       let b = bit_at_and d s 4 in
-      let j = digit_and (not (bit o 4)) (bit s 4) in
-      let n = digit_not (bit o 4) in
-      omega (arith, and_high (bit_and d s) 1 4, d_bit 4 refl, digit_differs (o / 16) (s / 16), digit_bit (o / 16), digit_bit (s / 16))
+      let j = from_bool_and (not (bit o 4)) (bit s 4) in
+      let n = from_bool_not (bit o 4) in
+      omega (arith, and_high (bit_and d s) 1 4, d_bit 4 refl, from_bool_differs (o / 16) (s / 16), from_bool_bit (o / 16), from_bool_bit (s / 16))
 
   enable_is : bit_and d 0x20 ≡ from_bool (differs o s 5) * 32
   enable_is = omega (arith, and_high d 1 5, d_bit 5 refl)
 
   events_is : bit_and s 0xc0 ≡ (from_bool (bit s 6) + from_bool (bit s 7) * 2) * 64
-  events_is = omega (arith, and_high s 2 6, digit_bit (s / 64), digit_bit (s / 128))
+  events_is = omega (arith, and_high s 2 6, from_bool_bit (s / 64), from_bool_bit (s / 128))
 
   -- the parts joined from low to high, up to SHST, NSSRO, CECO and FA
   abbrev pub to_shutdown : ℕ
@@ -132,21 +132,21 @@ module _ (o s : ℕ) where
   to_events = bit_or to_enable (bit_and s 0xc0)
 
   -- with CSTS, the word of the rows: nine bits, and not bit 3
-  pub record Status (csts : ℕ) : Type 0 where
-    pub word : bit_or to_events csts ≡ word_of (status_gains o s)
-    pub below : word_of (status_gains o s) < 2 ^ 9
-    pub bit_3 : word_of (status_gains o s) / 8 % 2 ≡ 0
+  record Status (csts : ℕ) : Type 0 where
+    word : bit_or to_events csts ≡ word_of (status_gains o s)
+    below : word_of (status_gains o s) < 2 ^ 9
+    bit_3 : word_of (status_gains o s) / 8 % 2 ≡ 0
 
-  pub status_is : (csts : ℕ) → csts ≡ from_bool (not (eqb any 0)) → Status (csts * 2 ^ 8 % 2 ^ 16)
+  status_is : (csts : ℕ) → csts ≡ from_bool (not (eqb any 0)) → Status (csts * 2 ^ 8 % 2 ^ 16)
   status_is csts h =
-      let l0 = digit_le (differs o s 0) in
-      let l1 = digit_le (differs o s 1) in
-      let l2 = digit_le (differs o s 2 || differs o s 3) in
-      let l4 = digit_le (rises o s 4) in
-      let l5 = digit_le (differs o s 5) in
-      let l6 = digit_le (bit s 6) in
-      let l7 = digit_le (bit s 7) in
-      let l8 = digit_le (level_differs o s || event_reported s) in
+      let l0 = from_bool_le (differs o s 0) in
+      let l1 = from_bool_le (differs o s 1) in
+      let l2 = from_bool_le (differs o s 2 || differs o s 3) in
+      let l4 = from_bool_le (rises o s 4) in
+      let l5 = from_bool_le (differs o s 5) in
+      let l6 = from_bool_le (bit s 6) in
+      let l7 = from_bool_le (bit s 7) in
+      let l8 = from_bool_le (level_differs o s || event_reported s) in
       let w0 = weigh (differs o s 0) 1 in
       let w1 = weigh (differs o s 1) 2 in
       let w2 = weigh (differs o s 2 || differs o s 3) 4 in
@@ -163,30 +163,34 @@ module _ (o s : ℕ) where
       let p8 = push 8 to_events _ _ c8 (omega (arith, ready_is)) in
       record { word = omega (arith, ready_is); below = omega (arith, ready_is); bit_3 = omega (arith, ready_is) }
 
--- the fields behind the status, and TCIDA behind both
-pub record Gained (old : HealthValues) (new : Report) (status fields : ℕ) : Type 0 where
-  pub word : bit_or (bit_or status fields) (bit_and new.status 0x100 * 2 ^ 5 % 2 ^ 16) ≡ gained old new
-  pub flags_only : named_flags (gained old new) ≡ gained old new
+  pub status_word : (csts : ℕ) → csts ≡ from_bool (not (eqb any 0)) → bit_or to_events (csts * 2 ^ 8 % 2 ^ 16) ≡ word_of (status_gains o s)
+  status_word csts h = (status_is csts h).word
 
-pub gained_is : (old : HealthValues) (new : Report) (status fields : ℕ) → status ≡ word_of (status_gains old.levels new.status) → status < 2 ^ 9 → status / 8 % 2 ≡ 0
-    → fields ≡ word_of (take 4 (field_gains old new)) → Gained old new status fields
-gained_is old new status fields e low clear f =
-    let s = new.status in
+  pub status_bit_3 : (csts : ℕ) → csts ≡ from_bool (not (eqb any 0)) → bit_or to_events (csts * 2 ^ 8 % 2 ^ 16) / 8 % 2 ≡ 0
+  status_bit_3 csts h = ap (λ n. n / 8 % 2) (status_is csts h).word ∙ (status_is csts h).bit_3
+
+pub tcida_word : (s : ℕ) → bit_and s 0x100 * 2 ^ 5 % 2 ^ 16 ≡ cond (bit s 8) (2 ^ 13) 0
+tcida_word s = omega (arith, and_high s 1 8, from_bool_bit (s / 256), weigh (bit s 8) (2 ^ 13))
+
+-- the fields stand behind the status, from bit 9 on, and no bit that names no flag is set
+pub joined : (old : HealthValues) (new : Report) (status fields : ℕ) → status ≡ word_of (status_gains old.levels new.status) → status < 2 ^ 9 → status / 8 % 2 ≡ 0
+    → fields ≡ word_of (field_gains old new) → (bit_or status fields ≡ gained old new) × (named_flags (bit_or status fields) ≡ bit_or status fields)
+joined old new status fields e low clear f =
     let t = unequal old.temperature new.temperature in
     let u = unequal old.percentage_used new.percentage_used in
     let p = unequal old.available_spare new.available_spare in
     let w = unequal old.critical_warning new.critical_warning in
-    let lt = digit_le t in
-    let lu = digit_le u in
-    let lp = digit_le p in
-    let lw = digit_le w in
-    let l8 = digit_le (bit s 8) in
+    let c = bit new.status 8 in
+    let lt = from_bool_le t in
+    let lu = from_bool_le u in
+    let lp = from_bool_le p in
+    let lw = from_bool_le w in
+    let lc = from_bool_le c in
     let wt = weigh t 512 in
     let wu = weigh u 1024 in
     let wp = weigh p 2048 in
     let ww = weigh w 4096 in
-    let w13 = weigh (bit s 8) 8192 in
-    let tcida : bit_and s 0x100 * 2 ^ 5 % 2 ^ 16 ≡ from_bool (bit s 8) * 2 ^ 13 = omega (arith, and_high s 1 8, digit_bit (s / 256)) in
-    let p9 = push 9 status (from_bool t + from_bool u * 2 + from_bool p * 4 + from_bool w * 8) fields (omega arith) low in
-    let p13 = push 13 (bit_or status fields) _ _ tcida (omega arith) in
-    record { word = omega arith; flags_only = omega arith }
+    let wc = weigh c 8192 in
+    let above : fields ≡ (from_bool t + from_bool u * 2 + from_bool p * 4 + from_bool w * 8 + from_bool c * 16) * 2 ^ 9 = omega arith in
+    let both = push 9 status _ fields above low in
+    (omega arith, omega arith)

@@ -1,5 +1,6 @@
-ghost use Rattle.std.specs.Prelude.{◌≡◌, ◌/◌, ◌%◌, ◌^◌, ◌<◌, not, take, is_some, if◌then◌else◌, unwrap_or};
+ghost use Rattle.std.specs.Prelude.{◌≡◌, ◌/◌, ◌%◌, ◌^◌, ◌<◌, not, is_some, if◌then◌else◌, unwrap_or};
 ghost use Rattle.std.specs.Option.{option_map};
+ghost use Rattle.health.specs.Words.{bit};
 ghost use Rattle.health.specs.Flags.{named_flags};
 ghost use Rattle.health.specs.Values.{health_of, well_formed};
 ghost use Rattle.health_rules.specs.FlagRule.{word_of, status_gains, field_gains, gained, exported};
@@ -13,17 +14,28 @@ fn field_flag<T: PartialEq + Copy>(old: T, new: T, flag: u16) -> u16
     if old != new { flag } else { 0 }
 }
 
-// CTEMP, PDLU, SPARE and CWARN, where their fields differ.
+// TCIDA, flag 13, where status bit 8 is reported.
+#[tactic(auto, using(crate::proofs::Gains::tcida_word))]
+fn tcida_flag(status: u16) -> u16
+    ensures { result ≡ if bit status 8 then 2 ^ 13 else 0 }
+{
+    (status & 0x100) << 5
+}
+
+// CTEMP, PDLU, SPARE and CWARN, where their fields differ, and TCIDA.
 fn field_flags(old: Health, new: Report) -> u16
-    ensures { result ≡ word_of (take 4 (field_gains (health_of old) new)) }
+    ensures { result ≡ word_of (field_gains (health_of old) new) }
 {
     field_flag(old.temperature, new.temperature, 0x200)
         | field_flag(old.percentage_used, new.percentage_used, 0x400)
         | field_flag(old.available_spare, new.available_spare, 0x800)
         | field_flag(old.critical_warning, new.critical_warning, 0x1000)
+        | tcida_flag(new.status)
 }
 
-// RDY to CSTS, by the Controller Status words: CSTS where a level bit differs or a status event is reported.
+// By the Controller Status words: RDY, CFS, SHST and CECO where a bit of theirs differs, NSSRO where bit 4 is newly set, NAC and FA where
+// they are reported, and CSTS where a level bit differs or a status event is reported.
+#[tactic(auto, using(crate::proofs::Gains::status_word, crate::proofs::Gains::status_bit_3))]
 fn status_flags(old: u16, new: u16) -> u16
     ensures is_the_word_of_its_rows { result ≡ word_of (status_gains old new) }
     ensures below_ctemp { result < 2 ^ 9 }
@@ -43,9 +55,7 @@ fn gained_word(old: Health, new: Report) -> u16
     ensures is_the_word_of_the_table { result ≡ gained (health_of old) new }
     ensures names_flags_only { named_flags result ≡ result }
 {
-    // TCIDA, flag 13, where status bit 8 is reported
-    let tcida = (new.status & 0x100) << 5;
-    status_flags(old.levels, new.status) | field_flags(old, new) | tcida
+    status_flags(old.levels, new.status) | field_flags(old, new)
 }
 
 // The flags that every Responder's row gains by a report, against the health that the register holds.
@@ -60,9 +70,6 @@ pub fn changed_flags_gained(old: Report, new: Report) -> Option<ChangedFlags>
     ensures refused_exactly_if_malformed { is_some result ≡ well_formed new }
     ensures gains_what_c_is_told { unwrap_or (option_map (λ f. f.bits) result) 0xffff ≡ exported old new }
 {
-    if new.is_well_formed() {
-        Some(gained_flags(old.health(), new))
-    } else {
-        None
-    }
+    new.is_well_formed()
+        .then(|| gained_flags(old.health(), new))
 }
