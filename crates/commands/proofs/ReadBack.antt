@@ -1,13 +1,21 @@
 -- What is written reads back as itself.
-use Rattle.std.proofs.Common.{◌≡◌, ℕ, ◌/◌, ◌%◌, ◌^◌, ◌<◌, Bool, eqb, ap, ◌∙◌, arith}
+use Rattle.std.proofs.Common.{◌≡◌, ℕ, ◌/◌, ◌%◌, ◌^◌, ◌<◌, ◌≤◌, Bool, true, false, eqb, refl, lit≤, ap, ◌∙◌, arith}
 use Rattle.health.specs.Words.{bit}
 use Rattle.commands.specs.Fields.{digit}
 use Rattle.commands.specs.ControllerPoll.{poll_nmd0, poll_nmd1, poll_in}
 use Rattle.commands.specs.declared.controller_poll.ControllerHealthPoll.{ControllerHealthPoll}
-use Rattle.commands.proofs.Parts.{digit_le, digit_is}
+
+digit_le : (b : Bool) → digit b ≤ 1
+digit_le true = lit≤ tt
+digit_le false = lit≤ tt
+
+-- a digit that was read is the bit that was written
+digit_is : (b : Bool) → eqb (digit b) 1 ≡ b
+digit_is true = refl
+digit_is false = refl
 
 -- the bit of a word that holds the digit of b
-pub is_bit : (word k : ℕ) (b : Bool) → word / 2 ^ k % 2 ≡ digit b → bit word k ≡ b
+is_bit : (word k : ℕ) (b : Bool) → word / 2 ^ k % 2 ≡ digit b → bit word k ≡ b
 is_bit word k b e = ap (λ d. eqb d 1) e ∙ digit_is b
 
 pub poll_reads_back : (p : ControllerHealthPoll) → p.maxrent < 2 ^ 8 → p.sctlid < 2 ^ 16 → poll_in (poll_nmd0 p) (poll_nmd1 p) ≡ p

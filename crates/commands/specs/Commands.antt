@@ -1,5 +1,6 @@
 -- The four health commands, and the dwords that carry them.
-use Rattle.std.specs.Prelude.{ℕ, ◌%◌, ◌^◌, Bool, cond, Ok, Err, Result, ◌==◌}
+use Rattle.std.specs.Prelude.{ℕ, ◌%◌, ◌^◌, Bool, if◌then◌else◌, Ok, Err, Result, ◌==◌}
+use Rattle.std.specs.Result.{result_map_both}
 use Rattle.health.specs.Words.{bit}
 use Rattle.health.specs.Flags.{named_flags}
 use Rattle.wire.specs.declared.message.Command.{Command}
@@ -43,18 +44,17 @@ command_of configuration_get = dwords 0x04 0x02 0
 
 -- NMD0 bits 7:0 are the Configuration Identifier
 abbrev pub if_health_status_change : ℕ → Asked → Result Asked Head
-if_health_status_change nmd0 asked = cond (nmd0 % 2 ^ 8 == 0x02) (Ok asked) (Err (invalid_parameter 8))
+if_health_status_change nmd0 asked = if nmd0 % 2 ^ 8 == 0x02 then Ok asked else Err (invalid_parameter 8)
 
 -- what an opcode and two dwords ask, or the error reply that they get
 abbrev pub asked_in : Command → Result Asked Head
 asked_in c =
-    cond (c.opcode == 0x01) (Ok (subsystem_poll (bit c.nmd1 31)))
-    (cond (c.opcode == 0x02) (Ok (controller_poll (poll_in c.nmd0 c.nmd1)))
-    (cond (c.opcode == 0x03) (if_health_status_change c.nmd0 (configuration_set (named_flags c.nmd1)))
-    (cond (c.opcode == 0x04) (if_health_status_change c.nmd0 configuration_get)
-    (Err invalid_opcode))))
+    if c.opcode == 0x01 then Ok (subsystem_poll (bit c.nmd1 31))
+    else if c.opcode == 0x02 then Ok (controller_poll (poll_in c.nmd0 c.nmd1))
+    else if c.opcode == 0x03 then if_health_status_change c.nmd0 (configuration_set (named_flags c.nmd1))
+    else if c.opcode == 0x04 then if_health_status_change c.nmd0 configuration_get
+    else Err invalid_opcode
 
 -- an answer of the code, over plain numbers
 abbrev pub told : Result HealthCommand ErrorReply → Result Asked Head
-told (Ok command) = Ok (asked_of command)
-told (Err reply) = Err (error_head reply)
+told r = result_map_both asked_of error_head r

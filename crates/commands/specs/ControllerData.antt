@@ -1,5 +1,6 @@
 -- The 16 bytes of a Controller Health Data Structure.
-use Rattle.std.specs.Prelude.{ℕ, ◌%◌, ◌^◌, List, [], ◌∷◌, length, Ok, Err, Result, nat_lt, slice_index}
+use Rattle.std.specs.Prelude.{ℕ, ◌%◌, ◌^◌, List, [], ◌∷◌, length, Ok, Result, nat_lt, slice_index}
+use Rattle.std.specs.Result.{result_map_both}
 use Rattle.health.specs.Flags.{named_flags}
 use Rattle.wire.specs.Bytes.{word_at, word_then}
 use Rattle.wire.specs.Refusals.{Refusal, refusal, refuse_if, cut_short}
@@ -50,5 +51,4 @@ entry_in bytes =
 
 -- an answer of the code, over plain numbers
 abbrev pub entry_told : Result ControllerHealthData WireFault → Result Entry Refusal
-entry_told (Ok d) = Ok (entry_of d)
-entry_told (Err fault) = Err (refusal fault)
+entry_told r = result_map_both entry_of refusal r

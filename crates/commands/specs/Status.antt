@@ -1,5 +1,5 @@
 -- The Response Message Status of a reply's head, and its NVMe Management Response.
-use Rattle.std.specs.Prelude.{ℕ, ◌*◌, ◌/◌, ◌%◌, ◌^◌, cond, ◌==◌}
+use Rattle.std.specs.Prelude.{ℕ, ◌*◌, ◌/◌, ◌%◌, ◌^◌, if◌then◌else◌, ◌==◌}
 use Rattle.wire.specs.declared.message.Head.{Head}
 use Rattle.commands.specs.declared.error.ErrorReply.{ErrorReply}
 use Rattle.commands.specs.declared.error.ErrorReply.TheVariants as error
@@ -31,8 +31,8 @@ error_head error.InvalidCommandSize = invalid_command_size
 -- what a head says
 abbrev pub status_in : Head → ResponseStatus
 status_in head =
-    cond (head.status == 0x00) status.Success
-    (cond (head.status == 0x03) status.InvalidOpcode
-    (cond (head.status == 0x04) (status.InvalidParameter (head.nmresp / 2 ^ 8 % 2 ^ 16))
-    (cond (head.status == 0x05) status.InvalidCommandSize
-    (status.Other head.status))))
+    if head.status == 0x00 then status.Success
+    else if head.status == 0x03 then status.InvalidOpcode
+    else if head.status == 0x04 then status.InvalidParameter (head.nmresp / 2 ^ 8 % 2 ^ 16)
+    else if head.status == 0x05 then status.InvalidCommandSize
+    else status.Other head.status

@@ -1,5 +1,6 @@
 -- The 8 bytes of an NVM Subsystem Health Data Structure.
-use Rattle.std.specs.Prelude.{ℕ, ◌+◌, ◌-◌, Bool, List, [], ◌∷◌, length, Ok, Err, Result, nat_lt, slice_index}
+use Rattle.std.specs.Prelude.{ℕ, ◌+◌, ◌-◌, Bool, List, [], ◌∷◌, length, Ok, Result, nat_lt, slice_index}
+use Rattle.std.specs.Result.{result_map_both}
 use Rattle.health.specs.Flags.{named_flags}
 use Rattle.health.specs.Words.{bit}
 use Rattle.wire.specs.Bytes.{word_at, word_then}
@@ -63,5 +64,4 @@ subsystem_in bytes =
 
 -- an answer of the code, over plain numbers
 abbrev pub subsystem_told : Result SubsystemHealthData WireFault → Result SubsystemHealth Refusal
-subsystem_told (Ok d) = Ok (subsystem_of d)
-subsystem_told (Err fault) = Err (refusal fault)
+subsystem_told r = result_map_both subsystem_of refusal r

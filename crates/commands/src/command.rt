@@ -30,13 +30,13 @@ const CONFIGURATION_GET: u8 = 0x04;
 // The Configuration Identifier Health Status Change, in NMD0 bits 7:0.
 const HEALTH_STATUS_CHANGE: u32 = 0x02;
 
-impl HealthCommand {
-    // The opcode and the dwords of this request. Bits that are not named are 0.
-    pub fn command(self) -> Command
-        ensures has_these_dwords { result ≡ command_of (asked_of self) }
-        ensures reads_back_as_itself { asked_in result ≡ Ok (asked_of self) }
-    {
-        match self {
+// The opcode and the dwords of a request, which read back as itself. Bits that are not named are 0.
+impl From<HealthCommand> for Command {
+    ghost from_gives = { λ asked command. (command ≡ command_of (asked_of asked)) × (asked_in command ≡ Ok (asked_of asked)) };
+
+    #[tactic(auto, using(health::proofs::Masks::flags_are_named, crate::proofs::ReadBack::poll_reads_back))]
+    fn from(asked: HealthCommand) -> Command {
+        match asked {
             HealthCommand::SubsystemHealthStatusPoll { clear_status } => Command {
                 opcode: SUBSYSTEM_HEALTH_STATUS_POLL,
                 nmd0: 0,
@@ -59,11 +59,15 @@ impl HealthCommand {
             },
         }
     }
+}
 
-    // The request that an opcode and two dwords are, or the error reply that they get. Bits that are not named are ignored.
-    pub fn read(command: Command) -> Result<HealthCommand, ErrorReply>
-        ensures { told result ≡ asked_in command }
-    {
+// The request that an opcode and two dwords are, or the error reply that they get. Bits that are not named are ignored.
+impl TryFrom<Command> for HealthCommand {
+    type Error = ErrorReply;
+
+    ghost try_from_gives = { λ command asked. told asked ≡ asked_in command };
+
+    fn try_from(command: Command) -> Result<HealthCommand, ErrorReply> {
         match command.opcode {
             SUBSYSTEM_HEALTH_STATUS_POLL => Ok(HealthCommand::SubsystemHealthStatusPoll {
                 clear_status: is_set(command.nmd1, 31),

@@ -55,6 +55,7 @@ impl ControllerHealthData {
         })
     }
 
+    #[tactic(auto, using(health::proofs::Masks::flags_are_named, health::proofs::Masks::status_is_whole))]
     pub fn to_bytes(self) -> [u8; 16]
         ensures is_these_bytes { result ≡ entry_bytes (entry_of self) }
         ensures reads_back_as_itself { entry_in result ≡ Ok (entry_of self) }

@@ -4,7 +4,7 @@ ghost use Rattle.commands.specs.Status.{error_head};
 use wire::Head;
 
 // Why a request gets an error reply.
-#[derive(Clone, Copy)]
+#[derive(Clone, Copy, Debug, PartialEq, Eq)]
 pub enum ErrorReply {
     InvalidOpcode,
     // the byte of the endpoint message that is at fault
@@ -12,12 +12,12 @@ pub enum ErrorReply {
     InvalidCommandSize,
 }
 
-impl ErrorReply {
-    // The whole reply: an error reply has no data.
-    pub fn head(self) -> Head
-        ensures { result ≡ error_head self }
-    {
-        match self {
+// The whole reply: an error reply has no data.
+impl From<ErrorReply> for Head {
+    ghost from_gives = { λ e head. head ≡ error_head e };
+
+    fn from(error: ErrorReply) -> Head {
+        match error {
             ErrorReply::InvalidOpcode => Head {
                 status: 0x03,
                 nmresp: 0,

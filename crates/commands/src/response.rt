@@ -15,10 +15,10 @@ pub enum ResponseStatus {
     Other { status: u8 },
 }
 
-impl ResponseStatus {
-    pub fn from_head(head: Head) -> Self
-        ensures { result ≡ status_in head }
-    {
+impl From<Head> for ResponseStatus {
+    ghost from_gives = { λ head status. status ≡ status_in head };
+
+    fn from(head: Head) -> ResponseStatus {
         match head.status {
             0x00 => ResponseStatus::Success,
             0x03 => ResponseStatus::InvalidOpcode,

@@ -59,6 +59,7 @@ impl SubsystemHealthData {
         })
     }
 
+    #[tactic(auto, using(health::proofs::Masks::flags_are_named))]
     pub fn to_bytes(self) -> [u8; 8]
         ensures is_these_bytes { result ≡ subsystem_bytes (subsystem_of self) }
         ensures reads_back_as_itself { subsystem_in result ≡ Ok (subsystem_of self) }

@@ -50,3 +50,10 @@ events_mask n = and_high n 3 6
 
 pub status_mask : (n : ℕ) → bit_and n 0x01ff ≡ n % 2 ^ 9
 status_mask n = and_mask n 9
+
+-- so a word of flags has no other bit, and a status no bit above 8
+pub flags_are_named : (n : ℕ) → bit_and n 0x3ff7 ≡ n → named_flags n ≡ n
+flags_are_named n h = sym (flags_mask n) ∙ h
+
+pub status_is_whole : (n : ℕ) → bit_and n 0x01ff ≡ n → n % 2 ^ 9 ≡ n
+status_is_whole n h = sym (status_mask n) ∙ h
