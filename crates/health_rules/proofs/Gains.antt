@@ -12,11 +12,11 @@ use Rattle.health.specs.declared.report.Report.{Report}
 use Rattle.health_rules.specs.FlagRule.{word_of, status_gains, field_gains, differs, rises, level_differs, event_reported, unequal, gained}
 
 -- a test as a number: 1 where it holds
-weigh : (b : Bool) (w : ℕ) → cond b w 0 ≡ from_bool b * w
+pub weigh : (b : Bool) (w : ℕ) → cond b w 0 ≡ from_bool b * w
 weigh true w = sym (one-mul w)
 weigh false w = sym (zero-mul w)
 
-from_bool_le : (b : Bool) → from_bool b ≤ 1
+pub from_bool_le : (b : Bool) → from_bool b ≤ 1
 from_bool_le true = omega arith
 from_bool_le false = omega arith
 
@@ -194,3 +194,11 @@ joined old new status fields e low clear f =
     let above : fields ≡ (from_bool t + from_bool u * 2 + from_bool p * 4 + from_bool w * 8 + from_bool c * 16) * 2 ^ 9 = omega arith in
     let both = push 9 status _ fields above low in
     (omega arith, omega arith)
+
+pub gained_below : (old : HealthValues) (new : Report) → gained old new < 2 ^ 16
+gained_below old new =
+    let o = old.levels in
+    let s = new.status in
+    let status = status_is o s (from_bool (not (eqb (any o s) 0))) refl in
+    let fields = joined old new _ _ refl status.below status.bit_3 refl in
+    omega (arith, fields.0, fields.1)

@@ -4,13 +4,13 @@ use native.Mathlib.Nat.{zero-div, div-div-eq-div-mul}
 use lib.Bits.{bit_or, and_step, and_le_l}
 use Rattle.std.proofs.lemmas.Bool.Decides.{nat_tests}
 use Rattle.health.specs.Words.{bit, without}
-use Rattle.health.proofs.Bitwise.{or_bit}
+use Rattle.std.proofs.lemmas.Nat.Bits.{bit_at_or}
 
 digits_or : (x y : ℕ) → x < 2 → y < 2 → eqb (max x y) 1 ≡ (eqb x 1 || eqb y 1)
 digits_or x y h k = grind (arith, nat_tests)
 
 pub bit-bit_or : (a b k : ℕ) → bit (bit_or a b) k ≡ (bit a k || bit b k)
-bit-bit_or a b k = ap (λ n. eqb n 1) (or_bit k a b) ∙ digits_or (a / 2 ^ k % 2) (b / 2 ^ k % 2) (omega arith) (omega arith)
+bit-bit_or a b k = ap (λ n. eqb n 1) (bit_at_or a b k) ∙ digits_or (a / 2 ^ k % 2) (b / 2 ^ k % 2) (omega arith) (omega arith)
 
 -- a difference, shifted
 without_half : (a b : ℕ) → without a b / 2 ≡ without (a / 2) (b / 2)
