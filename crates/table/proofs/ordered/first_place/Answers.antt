@@ -1,24 +1,18 @@
-use Rattle.std.proofs.Common.{◌≡◌, true, false, rules}
-use Rattle.table.proofs.Places.{walk_on, walk_stops, walk_ends}
+use Rattle.std.proofs.Common.{rules, sym, ap, ◌∙◌, length}
+use Rattle.std.proofs.lemmas.Iterator.{YieldsList-from_slice}
+use Rattle.std.proofs.lemmas.Iterator.Search.{position_from_yields_List}
+use Rattle.std.specs.Option.{unwrap_or}
+use Rattle.std.specs.Ordering.{partial_ge}
+use Rattle.table.proofs.Places.{first_place_is_found}
 use Rattle.table.proofs.ordered.first_place.Goals as goal
 
-pub loop-place-preserved : goal.loop-place-preserved
-loop-place-preserved g c =
-    let o = g.T.Number.TotalOrder.order in
+pub returns : goal.returns
+returns g c =
     let key = g.T.Numbered.key in
-    let x = c.index-records-place.result in
-    let t : o.below (key x) c.args.number ≡ true = cc c.if-is_below.ensures in
-    (search rules, walk_on o key c.args.number c.args.records.now c.loop-place.place x (search rules) c.index-records-place.is t c.loop-place.invariant.1)
-
-pub returns-else-is_below : goal.returns-else-is_below
-returns-else-is_below g c =
-    let o = g.T.Number.TotalOrder.order in
-    let key = g.T.Numbered.key in
-    let x = c.index-records-place.result in
-    let t : o.below (key x) c.args.number ≡ false = cc c.if-is_below.ensures in
-    walk_stops o key c.args.number c.args.records.now c.loop-place.place x (search rules) c.index-records-place.is t c.loop-place.invariant.1
-
-pub returns-after-loop-place : goal.returns-after-loop-place
-returns-after-loop-place g c =
-    walk_ends g.T.Number.TotalOrder.order g.T.Numbered.key c.args.number c.args.records.now c.loop-place.place (search rules)
-    c.loop-place.invariant.1
+    let partial = g.T.Number.PartialOrd.partial_cmp in
+    let k = c.args.number in
+    let xs = c.args.records.now in
+    let found =
+    position_from_yields_List (λ x. partial_ge partial (key x) k) _ _ c.position.result c.position.ensures.ran (YieldsList-from_slice _ c.iter.ensures.rest)
+    (λ x b q k. search rules) in
+    c.unwrap_or.ensures ∙ ap (λ o. unwrap_or o (length xs)) found ∙ sym (first_place_is_found _ partial key k xs g.met.T.Number.Ord.matches_partial_cmp)
