@@ -3,13 +3,11 @@ use Rattle.std.proofs.Common.{◌≡◌, ℕ, suc, ◌+◌, ◌<◌, ◌≤◌, 
 use Rattle.std.proofs.lemmas.List.{length-take-le}
 use Rattle.std.proofs.lemmas.List.Recursion.{is_position_or_len}
 use Rattle.std.proofs.lemmas.List.Sums.{prefix_len-le-length}
-use Rattle.std.specs.Cmp.{Agrees}
 use Rattle.std.specs.List.{position, position_or_len, slice_get}
 use Rattle.std.specs.Option.{unwrap_or, option_map_or}
-use Rattle.std.specs.Ordering.{is_lt, is_eq, is_ge, partial_ge, is_some_and}
+use Rattle.std.specs.Ordering.{is_lt, is_eq, is_ge}
 use Rattle.std.specs.declared.cmp.Ordering.{Ordering}
 use Rattle.std.specs.declared.cmp.Ordering.TheVariants.{Less, Equal, Greater}
-use Rattle.std.specs.declared.option.Option.{Option}
 use Rattle.table.specs.Orders.{first_place, is_there}
 
 -- the first place where a test passes, or else the length
@@ -21,11 +19,11 @@ by_order Less n = omega arith
 by_order Equal n = refl
 by_order Greater n = refl
 
--- where `>=` first answers true
-pub first_place_is_found : {K T : Type 0} (cmp : K → K → Ordering) (partial : K → K → Option Ordering) (key : T → K) (k : K) (xs : List T)
-    → Agrees partial cmp → first_place cmp key k xs ≡ unwrap_or (position (λ x. partial_ge partial (key x) k) xs) (length xs)
-first_place_is_found cmp partial key k xs a =
-    is_position_or_len (first_place cmp key k) (λ x. partial_ge partial (key x) k) refl (λ y ys. by_order (cmp (key y) k) (first_place cmp key k ys) ∙ ap (λ o. cond (is_some_and is_ge o) 0 (1 + first_place cmp key k ys)) (sym (a (key y) k))) xs
+-- where a number is first at or above k
+pub first_place_is_found : {K T : Type 0} (cmp : K → K → Ordering) (key : T → K) (k : K) (xs : List T)
+    → first_place cmp key k xs ≡ unwrap_or (position (λ x. is_ge (cmp (key x) k)) xs) (length xs)
+first_place_is_found cmp key k xs =
+    is_position_or_len (first_place cmp key k) (λ x. is_ge (cmp (key x) k)) refl (λ y ys. by_order (cmp (key y) k) (first_place cmp key k ys)) xs
     ∙ sym (found_or_length _ xs)
 
 module _ {K T : Type 0} (cmp : K → K → Ordering) (key : T → K) (k : K) where

@@ -1,6 +1,7 @@
 // Records in slices, by their numbers. Nothing here asks that they ascend.
 ghost use Rattle.std.specs.Prelude.{◌≡◌, ◌+◌, ◌<◌, ◌≤◌, ◌++◌, length, take, drop, Some};
-ghost use Rattle.std.specs.List.{insert, slice_get};
+ghost use Rattle.std.specs.List.{insert, slice_get, position};
+ghost use Rattle.std.specs.Ordering.{is_ge};
 ghost use Rattle.table.specs.Orders.{first_place, search_answer};
 ghost use Rattle.table.specs.Tables.{insert_answer, slots_after_insert, table_over, table_answer, table_after_insert};
 
@@ -14,14 +15,19 @@ pub fn record_at<T: Copy>(records: &[T], place: usize) -> Option<T>
     records.get(place).copied()
 }
 
+// Where a record first has a number at or above this one, if one has.
+fn find_place<T: Numbered>(records: &[T], number: T::Number) -> Option<usize>
+    ensures { result ≡ position (λ x. is_ge (T.Number.cmp (T.key x) number)) records.now }
+{
+    records.iter().position(|record| record.number() >= number)
+}
+
 // The first place whose record has a number at or above this one, else the length.
+#[tactic(auto, using(crate::proofs::Places::first_place_is_found))]
 pub fn first_place<T: Numbered>(records: &[T], number: T::Number) -> usize
     ensures { result ≡ first_place T.Number.cmp T.key number records.now }
 {
-    records
-        .iter()
-        .position(|record| record.number() >= number)
-        .unwrap_or(records.len())
+    find_place(records, number).unwrap_or(records.len())
 }
 
 // The first place at or above a number: `Ok` where its record has that number, `Err` where a record with it would go.
