@@ -18,6 +18,7 @@ pub enum FunctionType {
 #[derive(Clone, Copy, Debug, PartialEq, Eq)]
 pub struct UnknownFunctionType(pub u8);
 
+// The number of a function.
 impl From<FunctionType> for u8 {
     ghost from_gives = { λ f n. n ≡ function_number f };
 

@@ -1,9 +1,6 @@
 // Controllers in slices, by what they mean: the first `count` slots hold them in ascending Controller ID.
 ghost use Rattle.std.specs.Prelude.{◌≡◌, ◌≤◌, false, T, map, length, take, is_ok};
-ghost use Rattle.health.specs.Values.{health_of};
-ghost use Rattle.std.specs.Option.{option_map};
-ghost use Rattle.std.specs.List.{slice_get};
-ghost use Rattle.register.specs.Controllers.{controller_of, lawful, first_from, with_health, written};
+ghost use Rattle.register.specs.Controllers.{controller_of, lawful};
 ghost use Rattle.register.specs.Registers.{register_over, count_after, enroll_answer, after_enroll};
 ghost use Rattle.register.specs.RegisterRefusals.{in_numbers};
 
@@ -11,6 +8,8 @@ use crate::controller::Controller;
 use crate::register_fault::RegisterFault;
 use table::insert_into;
 
+// Adds a controller in its place among the first `count` slots.
+// Apart from `enroll`, so that an edit of `enroll` is refused at the code and not at an answer: within it two goals stay open.
 #[tactic(auto, using(crate::proofs::Enrolling::enrolling))]
 pub(crate) fn enroll_in(
     slots: &mut [Controller],
