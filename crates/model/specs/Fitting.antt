@@ -1,10 +1,11 @@
 -- Fitting out a subsystem, and opening it.
 use Rattle.std.specs.Prelude.{ℕ, ◌+◌, ◌*◌, ◌^◌, Bool, true, false, cond, not, ◌&&◌, ◌||◌, List, [], ◌∷◌, ◌++◌, map, length, drop, replicate, Some, None, Ok, Err, Option, Result, ◌==◌, nat_le, nat_lt}
+use Rattle.std.specs.Ordering.{nat_cmp}
 use Rattle.health.specs.Rows.{RowValues, clear_row}
 use Rattle.health.specs.Values.{reported_health}
 use Rattle.health.specs.declared.report.Report.{Report}
 use Rattle.wire.specs.Refusals.{Refusal, refuse_if}
-use Rattle.table.specs.Orders.{numbers, is_there}
+use Rattle.table.specs.Orders.{is_there}
 use Rattle.table.specs.Tables.{table_over, in_use, table_after_insert}
 use Rattle.register.specs.Controllers.{ControllerValues}
 use Rattle.register.specs.Registers.{RegisterValues, enroll_answer, after_enroll}
@@ -63,7 +64,7 @@ new_port id = record { id = id; link_up = false }
 
 -- a port in use has the identifier
 abbrev pub port_there : ℕ → Fitted → List Port → Bool
-port_there id b ports = is_there numbers (λ p. p.id) id (in_use (table_over b.port_count ports))
+port_there id b ports = is_there nat_cmp (λ p. p.id) id (in_use (table_over b.port_count ports))
 
 -- refused at the ninth, for want of memory, and if the identifier is present
 abbrev pub add_port_answer : ℕ → Fitted → List Port → Result (Unit {0}) Refusal
@@ -74,7 +75,7 @@ add_port_answer id b ports =
 
 -- the port memory after this answer
 abbrev pub ports_after : Result (Unit {0}) Refusal → ℕ → Fitted → List Port → List Port
-ports_after (Ok granted) id b ports = (table_after_insert numbers (λ p. p.id) (new_port id) (table_over b.port_count ports)).slots
+ports_after (Ok granted) id b ports = (table_after_insert nat_cmp (λ p. p.id) (new_port id) (table_over b.port_count ports)).slots
 ports_after (Err refused) id b ports = ports
 
 -- it is counted

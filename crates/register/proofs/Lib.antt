@@ -1,3 +1,2 @@
 pub mod Enrolling
 pub mod Lawful
-pub mod Same

@@ -1,8 +1,9 @@
 -- Controllers, over plain numbers, and lists of them.
-use Rattle.std.specs.Prelude.{ℕ, zero, suc, ◌+◌, ◌^◌, Bool, true, false, cond, ◌&&◌, ◌||◌, List, [], ◌∷◌, ◌==◌, nat_le, nat_lt}
+use Rattle.std.specs.Prelude.{ℕ, zero, suc, ◌+◌, ◌^◌, Bool, true, false, if◌then◌else◌, ◌&&◌, ◌||◌, List, [], ◌∷◌, ◌==◌, nat_le, nat_lt}
 use Rattle.health.specs.Values.{HealthValues, health_of}
 use Rattle.register.specs.Functions.{function_number}
-use Rattle.table.specs.Orders.{numbers, first_place}
+use Rattle.std.specs.Ordering.{nat_cmp}
+use Rattle.table.specs.Orders.{first_place}
 use Rattle.register.specs.declared.controller.Controller.{Controller}
 
 -- a controller
@@ -31,7 +32,7 @@ lawful cs = lawful_from 0 cs
 
 -- the first place with an ID at or above n, else the length
 abbrev pub first_from : ℕ → List ControllerValues → ℕ
-first_from n cs = first_place numbers (λ c. c.id) n cs
+first_from n cs = first_place nat_cmp (λ c. c.id) n cs
 
 -- a controller has the ID n
 abbrev pub present : ℕ → List ControllerValues → Bool
@@ -41,7 +42,7 @@ present n (c ∷ cs) = c.id == n || present n cs
 -- a controller in its place
 abbrev pub enrolled : ControllerValues → List ControllerValues → List ControllerValues
 enrolled x [] = x ∷ []
-enrolled x (c ∷ cs) = cond (nat_lt c.id x.id) (c ∷ enrolled x cs) (x ∷ (c ∷ cs))
+enrolled x (c ∷ cs) = if nat_lt c.id x.id then c ∷ enrolled x cs else x ∷ (c ∷ cs)
 
 -- another health
 abbrev pub with_health : HealthValues → ControllerValues → ControllerValues

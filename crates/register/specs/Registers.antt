@@ -1,5 +1,5 @@
 -- What a register means, and what its calls answer and leave.
-use Rattle.std.specs.Prelude.{ℕ, ◌+◌, cond, not, List, map, length, take, is_ok, Ok, Result, nat_lt}
+use Rattle.std.specs.Prelude.{ℕ, ◌+◌, if◌then◌else◌, not, List, map, length, take, is_ok, Ok, Result, nat_lt}
 use Rattle.health.specs.Values.{HealthValues}
 use Rattle.wire.specs.Refusals.{Refusal, refuse_if}
 use Rattle.register.specs.Controllers.{ControllerValues, controller_of, present, enrolled, written}
@@ -17,7 +17,7 @@ register_over capacity n slots = record { capacity = capacity; controllers = map
 
 -- how many are in use after an enrolment that answers r
 abbrev pub count_after : {A E : Type 0} → Result A E → ℕ → ℕ
-count_after r n = cond (is_ok r) (n + 1) n
+count_after r n = if is_ok r then n + 1 else n
 
 -- the same register with another list
 abbrev pub with_controllers : RegisterValues → List ControllerValues → RegisterValues
@@ -32,8 +32,8 @@ enroll_answer x m =
 -- the list has it in its place, unless it is refused
 abbrev pub after_enroll : ControllerValues → RegisterValues → RegisterValues
 after_enroll x m =
-    cond (present x.id m.controllers) m
-    (cond (not (nat_lt (length m.controllers) m.capacity)) m (with_controllers m (enrolled x m.controllers)))
+    if present x.id m.controllers then m else
+    (if not (nat_lt (length m.controllers) m.capacity) then m else with_controllers m (enrolled x m.controllers))
 
 -- one health is replaced
 abbrev pub after_write : ℕ → HealthValues → RegisterValues → RegisterValues

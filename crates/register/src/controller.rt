@@ -1,36 +1,55 @@
 ghost use Rattle.std.specs.Prelude.{◌≡◌};
-ghost use Rattle.register.specs.Functions.{function_number, function_in};
+ghost use Rattle.register.specs.Functions.{function_number, function_read};
 
 use health::Health;
+use std::error::Error;
+use std::fmt;
 use table::Numbered;
 
 // The PCI function that a controller is.
-#[derive(Clone, Copy)]
+#[derive(Clone, Copy, Debug, PartialEq, Eq)]
 pub enum FunctionType {
     Pci = 0,
     SriovPhysical = 1,
     SriovVirtual = 2,
 }
 
-impl FunctionType {
-    pub fn number(self) -> u8
-        ensures { result ≡ function_number self }
-    {
-        self as u8
-    }
+// A number that is no function's.
+#[derive(Clone, Copy, Debug, PartialEq, Eq)]
+pub struct UnknownFunctionType(pub u8);
 
-    // The function of this number, where there is one.
-    pub fn from_number(number: u8) -> Option<Self>
-        ensures { result ≡ function_in number }
-    {
+// The number of a function.
+impl From<FunctionType> for u8 {
+    ghost from_gives = { λ f n. n ≡ function_number f };
+
+    fn from(function: FunctionType) -> u8 {
+        function as u8
+    }
+}
+
+// The function of this number, where there is one.
+impl TryFrom<u8> for FunctionType {
+    type Error = UnknownFunctionType;
+
+    ghost try_from_gives = { λ n r. r ≡ function_read n };
+
+    fn try_from(number: u8) -> Result<Self, UnknownFunctionType> {
         match number {
-            0 => Some(FunctionType::Pci),
-            1 => Some(FunctionType::SriovPhysical),
-            2 => Some(FunctionType::SriovVirtual),
-            _ => None,
+            0 => Ok(FunctionType::Pci),
+            1 => Ok(FunctionType::SriovPhysical),
+            2 => Ok(FunctionType::SriovVirtual),
+            _ => Err(UnknownFunctionType(number)),
         }
     }
 }
+
+impl fmt::Display for UnknownFunctionType {
+    fn fmt<W: fmt::Write>(&self, f: &mut fmt::Formatter<W>) -> fmt::Result {
+        write!(f, "no function type has number {}", self.0)
+    }
+}
+
+impl Error for UnknownFunctionType {}
 
 // A controller of the subsystem, as a register holds it.
 #[derive(Clone, Copy)]

@@ -4,6 +4,7 @@ ghost use Rattle.register.specs.Controllers.{controller_of, lawful};
 use crate::controller::Controller;
 
 // A register of capacity 4 that holds its own controllers: the first `count` of its slots.
+// Slots with a count beside them, and no list of fixed capacity: the slots behind the count are values too, and the edits in must-fail speak of them.
 #[derive(Drop)]
 pub struct InlineRegister {
     pub(crate) count: usize,

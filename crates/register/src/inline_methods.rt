@@ -1,14 +1,13 @@
-ghost use Rattle.std.specs.Prelude.{◌≡◌, []};
+ghost use Rattle.std.specs.Prelude.{◌≡◌, [], take};
 ghost use Rattle.register.specs.Inline.{inline_of};
 
 use crate::controller::{Controller, FunctionType};
-use crate::controllers::{
-    controller_at, count_controllers, enroll_in, first_controller, write_health,
-};
+use crate::controllers::enroll_in;
 use crate::inline::InlineRegister;
 use crate::register::Register;
 use crate::register_fault::RegisterFault;
 use health::Health;
+use table::{first_place, record_at};
 
 impl InlineRegister {
     // A register with no controller.
@@ -31,6 +30,13 @@ impl InlineRegister {
             slots: [vacant; 4],
         }
     }
+
+    // The controllers in their slots.
+    fn in_use(&self) -> &[Controller]
+        ensures { result.now ≡ take self.now.count self.now.slots }
+    {
+        &self.slots[..self.count]
+    }
 }
 
 impl Register for InlineRegister {
@@ -39,15 +45,16 @@ impl Register for InlineRegister {
     ghost holds_lawful_controllers = { λ r. r.lawful_controllers };
 
     fn len(&self) -> usize {
-        count_controllers(&self.slots[0..self.count])
+        self.in_use().len()
     }
 
     fn get(&self, place: usize) -> Option<Controller> {
-        controller_at(&self.slots[0..self.count], place)
+        record_at(self.in_use(), place)
     }
 
+    #[tactic(auto, using(crate::proofs::Lawful::first_of_values))]
     fn first_place(&self, id: u16) -> usize {
-        first_controller(&self.slots[0..self.count], id)
+        first_place(self.in_use(), id)
     }
 
     fn enroll(&mut self, controller: Controller) -> Result<(), RegisterFault> {
@@ -57,10 +64,10 @@ impl Register for InlineRegister {
         Ok(())
     }
 
+    #[tactic(auto, using(crate::proofs::Lawful::writes))]
     fn write(&mut self, place: usize, health: Health) {
-        if place < self.len() {
-            let count = self.count;
-            write_health(&mut self.slots, count, place, health);
+        if place < self.count {
+            self.slots[place].health = health;
         }
     }
 }

@@ -9,7 +9,7 @@ mod port;
 mod register;
 mod register_fault;
 
-pub use controller::{Controller, FunctionType};
+pub use controller::{Controller, FunctionType, UnknownFunctionType};
 pub use inline::InlineRegister;
 pub use port::Port;
 pub use register::Register;

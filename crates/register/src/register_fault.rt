@@ -1,11 +1,12 @@
 ghost use Rattle.std.specs.Prelude.{◌≡◌};
 ghost use Rattle.register.specs.RegisterRefusals.{register_refusal, climbed};
 
+use std::error::Error;
 use std::fmt;
 use table::TableFault;
 
 // Why a register does not enroll a controller.
-#[derive(Clone, Copy)]
+#[derive(Clone, Copy, Debug, PartialEq, Eq)]
 pub enum RegisterFault {
     // a controller has this Controller ID already
     Present { id: u16 },
@@ -61,3 +62,5 @@ impl fmt::Display for RegisterFault {
         }
     }
 }
+
+impl Error for RegisterFault {}

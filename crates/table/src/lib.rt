@@ -6,10 +6,8 @@ mod number;
 mod ordered;
 mod table;
 mod table_methods;
-mod u16_order;
-mod u8_order;
 
 pub use fault::TableFault;
-pub use number::{Numbered, TotalOrder};
+pub use number::Numbered;
 pub use ordered::{first_place, insert_into, record_at};
 pub use table::Table;

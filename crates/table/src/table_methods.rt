@@ -35,7 +35,7 @@ impl<'a, T: Numbered> Table<'a, T> {
 
     // The first place whose record has a number at or above this one, else the length.
     pub fn first_place(&self, number: T::Number) -> usize
-        ensures { result ≡ first_place T.Number.TotalOrder.order T.Numbered.key number (in_use (table_of self.now)) }
+        ensures { result ≡ first_place T.Number.cmp T.key number (in_use (table_of self.now)) }
     {
         let len = self.len();
         first_place(&self.slots[0..len], number)
@@ -43,8 +43,8 @@ impl<'a, T: Numbered> Table<'a, T> {
 
     // Puts a record in its place, and moves those behind it up by one. Answers the place.
     pub fn insert(&mut self, item: T) -> Result<usize, TableFault<T::Number>>
-        ensures refused_exactly_if_there_or_full { result ≡ table_answer T.Number.TotalOrder.order T.Numbered.key item (table_of self.old) }
-        ensures moves_those_behind_it_up { table_of self.new ≡ table_after_insert T.Number.TotalOrder.order T.Numbered.key item (table_of self.old) }
+        ensures refused_exactly_if_there_or_full { result ≡ table_answer T.Number.cmp T.key item (table_of self.old) }
+        ensures moves_those_behind_it_up { table_of self.new ≡ table_after_insert T.Number.cmp T.key item (table_of self.old) }
         ensures lends_the_same_memory { self.new.slots.ghost_name ≡ self.old.slots.ghost_name }
     {
         let len = self.len();

@@ -1,16 +1,15 @@
-use Rattle.std.proofs.Common.{map, take, sym, refl, ap, arith}
-use Rattle.health.specs.Values.{health_of}
-use Rattle.register.specs.Controllers.{controller_of}
-use Rattle.register.specs.Registers.{with_controllers}
-use Rattle.register.specs.Inline.{inline_of}
-use Rattle.register.proofs.Lawful.{written_past}
+use Rattle.std.proofs.Common.{◌∙◌, arith}
+use Rattle.std.proofs.lemmas.List.{length-set}
+use Rattle.register.proofs.Lawful.{written_stays_lawful}
 use Rattle.register.proofs.inline_methods.InlineRegisterRegister.write.Goals as goal
 
-pub returns-else-place-len : goal.returns-else-place-len
-returns-else-place-len c =
+pub invariant_of-self : goal.invariant_of-self
+invariant_of-self c =
     let self = c.args.self.now in
-    let past = written_past c.args.place (health_of c.args.health) (map controller_of (take self.count self.slots)) (omega arith) in
     record {
-      replaces_this_health_alone = ap (with_controllers (inline_of self)) (sym past);
-      past_the_end_nothing_changes = λ _. refl;
+      count_within = self.count_within;
+      four_slots = length-set self.slots c.args.place _ ∙ self.four_slots;
+      lawful_controllers =
+          written_stays_lawful self.count self.slots c.args.place c.args.health c.index-self-place.result (omega arith)
+          (omega (arith, self.count_within, self.four_slots)) self.lawful_controllers;
     }
