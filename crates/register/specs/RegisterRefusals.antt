@@ -1,6 +1,6 @@
 -- The refusals of a register, in numbers.
 use Rattle.std.specs.Prelude.{ℕ, Ok, Err, Result}
-use Rattle.wire.specs.Refusals.{Refusal}
+use Rattle.wire.specs.Refusals.{Refusal, with_refusals}
 use Rattle.table.specs.declared.fault.TableFault.{TableFault}
 use Rattle.table.specs.declared.fault.TableFault.TheVariants as table
 use Rattle.register.specs.declared.register_fault.RegisterFault.{RegisterFault}
@@ -26,5 +26,4 @@ climbed (table.Full capacity) = register.Full capacity
 
 -- an answer of the code, its fault in numbers
 abbrev pub in_numbers : {A : Type 0} → Result A RegisterFault → Result A Refusal
-in_numbers (Ok answer) = Ok answer
-in_numbers (Err fault) = Err (register_refusal fault)
+in_numbers r = with_refusals register_refusal r

@@ -4,6 +4,7 @@ ghost use Rattle.register.specs.RegisterRefusals.{register_refusal, climbed};
 use std::error::Error;
 use std::fmt;
 use table::TableFault;
+use wire::Refused;
 
 // Why a register does not enroll a controller.
 #[derive(Clone, Copy, Debug, PartialEq, Eq)]
@@ -14,28 +15,21 @@ pub enum RegisterFault {
     Full { capacity: usize },
 }
 
-impl RegisterFault {
-    // The number of the refusal.
-    pub fn number(self) -> u8
-        ensures { result ≡ (register_refusal self).number }
-    {
+impl Refused for RegisterFault {
+    ghost refusal = { register_refusal };
+
+    fn number(self) -> u8 {
         match self {
             RegisterFault::Present { .. } => 22,
             RegisterFault::Full { .. } => 23,
         }
     }
 
-    // The layer that refuses: 2, a register.
-    pub fn layer(self) -> u8
-        ensures { result ≡ (register_refusal self).layer }
-    {
+    fn layer(self) -> u8 {
         2
     }
 
-    // The Controller ID, or the capacity.
-    pub fn place(self) -> usize
-        ensures { result ≡ (register_refusal self).place }
-    {
+    fn place(self) -> usize {
         match self {
             RegisterFault::Present { id } => usize::from(id),
             RegisterFault::Full { capacity } => capacity,

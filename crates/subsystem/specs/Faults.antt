@@ -1,6 +1,6 @@
 -- The refusals of the subsystem, in numbers.
-use Rattle.std.specs.Prelude.{ℕ, ◌+◌, ◌-◌, ◌^◌, min, Ok, Err, Result}
-use Rattle.wire.specs.Refusals.{Refusal, refusal}
+use Rattle.std.specs.Prelude.{ℕ, ◌+◌, ◌-◌, ◌^◌, min, Result}
+use Rattle.wire.specs.Refusals.{Refusal, refusal, with_refusals}
 use Rattle.table.specs.declared.fault.TableFault.{TableFault}
 use Rattle.table.specs.declared.fault.TableFault.TheVariants as table
 use Rattle.register.specs.RegisterRefusals.{register_refusal}
@@ -30,5 +30,4 @@ port_climbed (table.Full capacity) = MemoryTooShort (min (capacity + 1) (2 ^ 64 
 
 -- an answer of the code, its fault in numbers
 abbrev pub in_numbers : {A : Type 0} → Result A Fault → Result A Refusal
-in_numbers (Ok answer) = Ok answer
-in_numbers (Err fault) = Err (fault_refusal fault)
+in_numbers r = with_refusals fault_refusal r

@@ -72,10 +72,10 @@ fn answer_controller_poll<R: Register>(
     ensures { (kind : ℕ) → ReplyIs (health_poll (polled_drive (R.Register.meaning register.now)) (responder_with kind composite.bits (map row_of own.old)) poll) kind result (map row_of own.new) payload.old payload.new }
 {
     if largest_id(register) < poll.sctlid {
-        return head_alone(ErrorReply::InvalidParameter { byte: 8 }.head(), composite);
+        return head_alone(ErrorReply::InvalidParameter { byte: 8 }.into(), composite);
     }
     if poll.maxrent == 255 {
-        return head_alone(ErrorReply::InvalidParameter { byte: 10 }.head(), composite);
+        return head_alone(ErrorReply::InvalidParameter { byte: 10 }.into(), composite);
     }
     match write_entries(register, own, poll, payload) {
         Ok(found) => Answered {
@@ -174,13 +174,13 @@ pub(crate) fn answer_request<R: Register>(
     ensures { (kind : ℕ) → ReplyIs (served (drive_shown (R.Register.meaning register.now) (status_of status) ports.now) (responder_with kind composite.bits (map row_of own.old)) request) kind result (map row_of own.new) payload.old payload.new }
 {
     if request.surplus != 0 {
-        return head_alone(ErrorReply::InvalidCommandSize.head(), composite);
+        return head_alone(ErrorReply::InvalidCommandSize.into(), composite);
     }
     if request.meb {
-        return head_alone(ErrorReply::InvalidParameter { byte: 2 }.head(), composite);
+        return head_alone(ErrorReply::InvalidParameter { byte: 2 }.into(), composite);
     }
-    match HealthCommand::read(request.command) {
+    match HealthCommand::try_from(request.command) {
         Ok(command) => answer_command(command, register, own, composite, status, ports, payload),
-        Err(error) => head_alone(error.head(), composite),
+        Err(error) => head_alone(error.into(), composite),
     }
 }

@@ -5,7 +5,7 @@ ghost use Rattle.subsystem.specs.declared.fault.Fault.TheVariants.{Carrier, Regi
 use register::RegisterFault;
 use std::fmt;
 use table::TableFault;
-use wire::WireFault;
+use wire::{Refused, WireFault};
 
 // Why the subsystem refuses a call.
 #[derive(Clone, Copy)]
@@ -32,11 +32,10 @@ pub enum Fault {
     Carrier(WireFault),
 }
 
-impl Fault {
-    // The number of the refusal.
-    pub fn number(self) -> u8
-        ensures { result ≡ (fault_refusal self).number }
-    {
+impl Refused for Fault {
+    ghost refusal = { fault_refusal };
+
+    fn number(self) -> u8 {
         match self {
             Fault::MemoryTooShort { .. } => 1,
             Fault::Malformed { .. } => 7,
@@ -53,10 +52,7 @@ impl Fault {
         }
     }
 
-    // The layer that refuses: 1 the subsystem, 2 a register, 3 a carrier.
-    pub fn layer(self) -> u8
-        ensures { result ≡ (fault_refusal self).layer }
-    {
+    fn layer(self) -> u8 {
         match self {
             Fault::Register(fault) => fault.layer(),
             Fault::Carrier(fault) => fault.layer(),
@@ -64,10 +60,7 @@ impl Fault {
         }
     }
 
-    // The length needed or found, the identifier, the Responder's number, or the bound.
-    pub fn place(self) -> usize
-        ensures { result ≡ (fault_refusal self).place }
-    {
+    fn place(self) -> usize {
         match self {
             Fault::MemoryTooShort { needed } => needed,
             Fault::Malformed { id } => usize::from(id),
