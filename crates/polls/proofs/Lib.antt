@@ -1,4 +1,3 @@
 pub mod Steps
-pub mod Clearing
 pub mod Entering
 pub mod LowestPorts

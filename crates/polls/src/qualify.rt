@@ -27,20 +27,20 @@ fn selects(poll: ControllerHealthPoll, changed: ChangedFlags) -> bool
     ensures { result ≡ selects poll changed.bits }
 {
     let selection = poll.selection;
-    (selection.cwarn & changed.has(ChangedFlag::Cwarn))
-        | (selection.spare & changed.has(ChangedFlag::Spare))
-        | (selection.pdlu & changed.has(ChangedFlag::Pdlu))
-        | (selection.ctemp & changed.has(ChangedFlag::Ctemp))
-        | (selection.csts & changed.has(ChangedFlag::Csts))
+    (selection.cwarn && changed.has(ChangedFlag::Cwarn))
+        || (selection.spare && changed.has(ChangedFlag::Spare))
+        || (selection.pdlu && changed.has(ChangedFlag::Pdlu))
+        || (selection.ctemp && changed.has(ChangedFlag::Ctemp))
+        || (selection.csts && changed.has(ChangedFlag::Csts))
 }
 
 // Whether the poll returns this controller, with this row.
 pub(crate) fn qualifies(poll: ControllerHealthPoll, controller: Controller, row: Row) -> bool
     ensures { result ≡ qualifies poll (controller_of controller) (row_of row) }
 {
-    (poll.sctlid <= controller.id)
-        & includes(poll, controller.function)
-        & (poll.report_all | selects(poll, row.changed))
+    poll.sctlid <= controller.id
+        && includes(poll, controller.function)
+        && (poll.report_all || selects(poll, row.changed))
 }
 
 // Whether a poll that has returned so many may return one more.
