@@ -19,7 +19,7 @@ loop-place-init g c =
     let cs = (g.R.Register.meaning c.args.register.now).controllers in
     let none : (f : ℕ → ℕ → ℕ) (field : HealthValues → ℕ) → 0 ≡ over f field (drop c.len-place.result cs) =
     λ f field. sym (at_drop_all (over f field) cs _ (omega (arith, c.len-place.ensures))) in
-    (none bit_or _, none max _, none max _)
+    let z = c.default-totals.ensures in (z.0 ∙ none bit_or _, z.1.0 ∙ none max _, z.1.1 ∙ none max _)
 
 pub loop-place-preserved-in-Some : goal.loop-place-preserved-in-Some
 loop-place-preserved-in-Some g c =
