@@ -1,3 +1,4 @@
 pub mod Steps
+pub mod Clearing
 pub mod Entering
 pub mod LowestPorts
