@@ -12,7 +12,7 @@ use Rattle.polls.proofs.totals.total_health.Goals as goal
 -- one controller more, from the last to the first
 joined : (f : ℕ → ℕ → ℕ) (field : HealthValues → ℕ) (cs : List ControllerValues) (k total new : ℕ) (c : ControllerValues) → 0 < k
     → slice_get cs (k - 1) ≡ Some c → total ≡ over f field (drop k cs) → new ≡ f (field c.health) total → new ≡ over f field (drop (k - 1) cs)
-joined f field cs k total new c h e t n = n ∙ ap (f (field c.health)) t ∙ sym (ap (over f field) (drop_last_nth cs k h c e))
+joined f field cs k total new c h e t n = n ∙ ap (f (field c.health)) t ∙ sym (ap (over f field) (drop_last_nth cs k c h e))
 
 pub loop-place-init : goal.loop-place-init
 loop-place-init g c =
