@@ -10,7 +10,7 @@ use Rattle.std.proofs.lemmas.Bool.{ltb-false}
 use Rattle.wire.specs.Refusals.{Refusal, refuse_if}
 use Rattle.register.specs.Registers.{RegisterValues}
 use Rattle.register.specs.declared.port.Port.{Port}
-use Rattle.model.specs.State.{SubsystemStatus, Drive, State, with_drive}
+use Rattle.model.specs.State.{SubsystemStatus, State, with_drive}
 use Rattle.model.specs.ServiceRefusals.{unknown_identifier}
 use Rattle.model.specs.Drives.{is_port, link_answer, linked, linked_ports}
 use Rattle.model.specs.Calls.{accepted, refused, set_link, judged, unless_refused, step}
