@@ -5,7 +5,7 @@ use std::fmt;
 use table::TableFault;
 
 // Why a register does not enroll a controller.
-#[derive(Clone, Copy)]
+#[derive(Clone, Copy, Debug, PartialEq, Eq)]
 pub enum RegisterFault {
     // a controller has this Controller ID already
     Present { id: u16 },

@@ -4,7 +4,7 @@ ghost use Rattle.wire.specs.Refusals.{refusal};
 use std::fmt;
 
 // Why bytes are refused, or a message is not written.
-#[derive(Clone, Copy)]
+#[derive(Clone, Copy, Debug, PartialEq, Eq)]
 pub enum WireFault {
     // The space lent for writing is shorter than needed.
     SpaceTooShort { needed: usize },
