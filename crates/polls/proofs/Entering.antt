@@ -5,11 +5,12 @@ use borrow.Rule.Slice.PartMut.{put_mid}
 use Rattle.std.specs.List.{slice_get}
 use Rattle.std.proofs.lemmas.List.{append_assoc, append-nil, take_all, drop_all, take-append-drop, drop-drop, drop_more, take_more, take_more_set, drop-set-lt, length-map, get_or-map}
 use Rattle.std.proofs.lemmas.Slice.{take-put_mid, drop-put_mid}
-use Rattle.std.proofs.lemmas.Bool.{lt-ltb, le-ltb, lt-leb, cases_lt}
+use Rattle.std.proofs.lemmas.Bool.{lt-ltb, lt-leb, cases_lt}
 use Rattle.health.specs.Rows.{RowValues, clear_row}
 use Rattle.commands.specs.ControllerData.{entry_bytes}
 use Rattle.commands.specs.declared.controller_poll.ControllerHealthPoll.{ControllerHealthPoll}
 use Rattle.register.specs.Controllers.{ControllerValues, first_from}
+use Rattle.register.proofs.Below.{not_below}
 use Rattle.model.specs.Requests.{qualifies, chosen, cleared, entry_for, entries}
 use Rattle.polls.specs.Polls.{row_after}
 use Rattle.polls.proofs.Steps.{drop_nth, drop_nth_none}
@@ -105,7 +106,7 @@ module _ (p : ControllerHealthPoll) where
     first_places_passed (c ∷ cs) (w ∷ ws) =
         ⊎_elim
         (λ (below : c.id < p.sctlid). simp (lt-ltb c.id p.sctlid below) (ap (with_other w) (first_places_passed cs ws) ∙ sym (head_passed n c cs w ws (below_passed c w below))))
-        (λ (above : p.sctlid ≤ c.id). simp (le-ltb c.id p.sctlid above))
+        (λ (above : p.sctlid ≤ c.id). simp (not_below c.id p.sctlid above))
         (cases_lt c.id p.sctlid)
 
   -- ---- under way: at most n entries of these controllers and rows, written to this space

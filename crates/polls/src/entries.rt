@@ -4,7 +4,7 @@ ghost use Rattle.wire.specs.Refusals.{in_numbers};
 ghost use Rattle.model.specs.Requests.{returned, entries};
 ghost use Rattle.polls.specs.Polls.{entries_space, rows_after_poll, entries_answer, rows_after_entries, space_after_entries};
 
-use crate::qualify::{may_return_more, qualifies, returned_row, write_entry};
+use crate::qualify::{entry, may_return_more, qualifies, returned_row};
 use commands::ControllerHealthPoll;
 use health::Row;
 use register::Register;
@@ -44,18 +44,19 @@ fn fill_entries<R: Register>(
     ensures writes_their_entries_and_no_other_byte { space.new ≡ entries (returned poll (R.Register.meaning register.now).controllers (map row_of rows.old)) ++ drop (16 * length (returned poll (R.Register.meaning register.now).controllers (map row_of rows.old))) space.old }
 {
     let mut found = 0;
-    let mut place = register.first_place(poll.sctlid);
-    while place < rows.len() && may_return_more(poll, found) {
+    for place in register.first_place(poll.sctlid)..rows.len() {
+        if !may_return_more(poll, found) {
+            break;
+        }
         let Some(controller) = register.get(place) else {
-            return found;
+            break;
         };
         let row = rows[place];
         if qualifies(poll, controller, row) {
-            write_entry(controller, row, &mut space[16 * found..16 * found + 16]);
+            space[16 * found..16 * found + 16].copy_from_slice(&entry(controller, row).to_bytes());
             rows[place] = returned_row(poll, row);
             found += 1;
         }
-        place += 1;
     }
     found
 }

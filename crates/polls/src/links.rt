@@ -17,12 +17,9 @@ fn lower(port: Port, other: Option<Port>) -> Option<Port>
 pub(crate) fn lowest_port(ports: &[Port], from: u16) -> Option<Port>
     ensures { result ≡ lowest_from from ports.now }
 {
-    let mut lowest = None;
-    for place in (0..ports.len()).rev() {
-        let port = ports[place];
-        if from <= u16::from(port.id) {
-            lowest = lower(port, lowest);
-        }
-    }
-    lowest
+    ports
+        .iter()
+        .rev()
+        .filter(|port| from <= u16::from(port.id))
+        .fold(None, |lowest, port| lower(*port, lowest))
 }

@@ -27,20 +27,20 @@ fn selects(poll: ControllerHealthPoll, changed: ChangedFlags) -> bool
     ensures { result ≡ selects poll changed.bits }
 {
     let selection = poll.selection;
-    (selection.cwarn & changed.has(ChangedFlag::Cwarn))
-        | (selection.spare & changed.has(ChangedFlag::Spare))
-        | (selection.pdlu & changed.has(ChangedFlag::Pdlu))
-        | (selection.ctemp & changed.has(ChangedFlag::Ctemp))
-        | (selection.csts & changed.has(ChangedFlag::Csts))
+    (selection.cwarn && changed.has(ChangedFlag::Cwarn))
+        || (selection.spare && changed.has(ChangedFlag::Spare))
+        || (selection.pdlu && changed.has(ChangedFlag::Pdlu))
+        || (selection.ctemp && changed.has(ChangedFlag::Ctemp))
+        || (selection.csts && changed.has(ChangedFlag::Csts))
 }
 
 // Whether the poll returns this controller, with this row.
 pub(crate) fn qualifies(poll: ControllerHealthPoll, controller: Controller, row: Row) -> bool
     ensures { result ≡ qualifies poll (controller_of controller) (row_of row) }
 {
-    (poll.sctlid <= controller.id)
-        & includes(poll, controller.function)
-        & (poll.report_all | selects(poll, row.changed))
+    poll.sctlid <= controller.id
+        && includes(poll, controller.function)
+        && (poll.report_all || selects(poll, row.changed))
 }
 
 // Whether a poll that has returned so many may return one more.
@@ -62,7 +62,7 @@ pub(crate) fn returned_row(poll: ControllerHealthPoll, row: Row) -> Row
 }
 
 // The entry of a controller, with the flags and the status events of the row.
-fn entry(controller: Controller, row: Row) -> ControllerHealthData
+pub(crate) fn entry(controller: Controller, row: Row) -> ControllerHealthData
     ensures { entry_of result ≡ entry_for (controller_of controller) (row_of row) }
 {
     let health = controller.health;
@@ -75,12 +75,4 @@ fn entry(controller: Controller, row: Row) -> ControllerHealthData
         critical_warning: health.critical_warning,
         changed: row.changed,
     }
-}
-
-// Writes the 16 bytes of an entry.
-pub(crate) fn write_entry(controller: Controller, row: Row, space: &mut [u8])
-    requires { length space.old ≡ 16 }
-    ensures { space.new ≡ entry_bytes (entry_for (controller_of controller) (row_of row)) }
-{
-    space.copy_from_slice(&entry(controller, row).to_bytes());
 }

@@ -6,7 +6,7 @@ use health::Health;
 use register::Register;
 
 // Over all controllers: the union of their critical warnings, the warmest reading (0 for none), and the highest percentage used.
-#[derive(Clone, Copy)]
+#[derive(Clone, Copy, Default)]
 pub(crate) struct Totals {
     pub(crate) critical_warning: u8,
     pub(crate) temperature: u16,
@@ -33,11 +33,9 @@ pub(crate) fn total_health<R: Register>(register: &R) -> Totals
     ensures takes_the_warmest { result.temperature ≡ over max (λ h. h.temperature) (R.Register.meaning register.now).controllers }
     ensures takes_the_most_used { result.percentage_used ≡ over max (λ h. h.percentage_used) (R.Register.meaning register.now).controllers }
 {
-    let mut totals = Totals {
-        critical_warning: 0,
-        temperature: 0,
-        percentage_used: 0,
-    };
+    let mut totals = Totals::default();
+    // No filter_map and fold over the places: get promises a controller's values and not the record that it gives, so that nothing is
+    // proved of the records in such a chain.
     for place in (0..register.len()).rev() {
         if let Some(controller) = register.get(place) {
             totals = totals.with(controller.health);

@@ -77,13 +77,11 @@ fn answer_controller_poll<R: Register>(
     if poll.maxrent == 255 {
         return head_alone(ErrorReply::InvalidParameter { byte: 10 }.into(), composite);
     }
-    match write_entries(register, own, poll, payload) {
-        Ok(found) => Answered {
-            head: entries_head(found),
-            length: 16 * found,
-            composite,
-        },
-        Err(_) => unreachable(),
+    let found = write_entries(register, own, poll, payload).unwrap();
+    Answered {
+        head: entries_head(found),
+        length: 16 * found,
+        composite,
     }
 }
 

@@ -3,12 +3,13 @@ ghost use Rattle.subsystem.specs.Faults.{fault_refusal, port_climbed};
 ghost use Rattle.subsystem.specs.declared.fault.Fault.TheVariants.{Carrier, Register};
 
 use register::RegisterFault;
+use std::error::Error;
 use std::fmt;
 use table::TableFault;
 use wire::{Refused, WireFault};
 
 // Why the subsystem refuses a call.
-#[derive(Clone, Copy)]
+#[derive(Clone, Copy, Debug, PartialEq, Eq)]
 pub enum Fault {
     // rows or port memory are shorter than this
     MemoryTooShort { needed: usize },
@@ -138,3 +139,5 @@ impl fmt::Display for Fault {
         }
     }
 }
+
+impl Error for Fault {}

@@ -15,14 +15,10 @@ pub(crate) fn find_controller<R: Register>(register: &R, id: u16) -> Option<Foun
     ensures { FoundOrAbsent id (R.Register.meaning register.now).controllers result }
 {
     let place = register.first_place(id);
-    match register.get(place) {
-        Some(controller) => {
-            if controller.id == id {
-                Some(Found { place, controller })
-            } else {
-                None
-            }
-        }
-        None => None,
+    let controller = register.get(place)?;
+    if controller.id == id {
+        Some(Found { place, controller })
+    } else {
+        None
     }
 }

@@ -22,12 +22,10 @@ pub(crate) fn controller_from(id: u16, function: u8, first: Report) -> Option<Co
     if first.status >= 0x40 || first.critical_warning >= 0x40 {
         return None;
     }
-    match FunctionType::try_from(function) {
-        Ok(function) => Some(Controller {
-            id,
-            function,
-            health: first.health(),
-        }),
-        Err(_) => None,
-    }
+    let function = FunctionType::try_from(function).ok()?;
+    Some(Controller {
+        id,
+        function,
+        health: first.health(),
+    })
 }

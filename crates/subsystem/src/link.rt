@@ -1,9 +1,11 @@
-ghost use Rattle.std.specs.Prelude.{◌≡◌, false, List, ◌++◌, length, is_ok};
+ghost use Rattle.std.specs.Prelude.{◌≡◌, ◌==◌, false, not, List, ◌++◌, length, is_ok, position, Ok};
+ghost use Rattle.wire.specs.Refusals.{refuse_if};
 ghost use Rattle.health.specs.declared.row.Row.{Row};
 ghost use Rattle.register.specs.Registers.{RegisterValues};
 ghost use Rattle.register.specs.declared.port.Port.{Port};
 ghost use Rattle.model.specs.Calls.{set_link, judged, step};
 ghost use Rattle.model.specs.Drives.{is_port, linked_ports};
+ghost use Rattle.model.specs.ServiceRefusals.{unknown_identifier};
 ghost use Rattle.subsystem.specs.Faults.{in_numbers};
 ghost use Rattle.subsystem.specs.States.{state_of};
 
@@ -12,30 +14,24 @@ use crate::memory::check_length;
 use crate::service::Subsystem;
 use register::Port;
 
-// The port with this link.
-fn with_link(port: Port, up: bool) -> Port
-    ensures { result ≡ record { id = port.id; link_up = up } }
+// The place of the first port with the identifier.
+fn place_of(ports: &[Port], id: u8) -> Option<usize>
+    ensures { result ≡ position (λ p. p.id == id) ports.now }
 {
-    Port {
-        id: port.id,
-        link_up: up,
-    }
+    ports.iter().position(|port| port.id == id)
 }
 
-// The first port with the identifier gets the link. Answers whether there is one.
-fn link_port(ports: &mut [Port], id: u8, up: bool) -> bool
-    ensures tells_whether_there_is_one { result ≡ is_port id ports.old }
+// The first port with the identifier gets the link. Refused if there is none.
+fn link_port(ports: &mut [Port], id: u8, up: bool) -> Result<(), Fault>
+    ensures refused_if_there_is_none { in_numbers result ≡ refuse_if (not (is_port id ports.old)) (unknown_identifier id) (Ok tt) }
     ensures links_the_first { ports.new ≡ linked_ports id up ports.old }
-    ensures else_nothing_changes { result ≡ false → ports.new ≡ ports.old }
+    ensures a_refusal_changes_nothing { is_ok result ≡ false → ports.new ≡ ports.old }
 {
-    for place in 0..ports.len() {
-        let port = ports[place];
-        if port.id == id {
-            ports[place] = with_link(port, up);
-            return true;
-        }
-    }
-    false
+    let Some(place) = place_of(ports, id) else {
+        return Err(Fault::UnknownIdentifier { id: u16::from(id) });
+    };
+    ports[place].link_up = up;
+    Ok(())
 }
 
 impl Subsystem {
@@ -46,10 +42,6 @@ impl Subsystem {
         ensures a_refusal_changes_nothing { is_ok result ≡ false → ports.new ≡ ports.old }
     {
         check_length(ports.len(), self.port_count)?;
-        if link_port(&mut ports[0..self.port_count], id, up) {
-            Ok(())
-        } else {
-            Err(Fault::UnknownIdentifier { id: u16::from(id) })
-        }
+        link_port(&mut ports[0..self.port_count], id, up)
     }
 }

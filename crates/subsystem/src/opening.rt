@@ -58,9 +58,5 @@ pub(crate) fn responders_of_kinds(kinds: [u8; 8]) -> [Responder; 8]
     requires { length kinds ≡ 8 }
     ensures { map responder_of result ≡ map no_composite kinds }
 {
-    let mut responders = [Responder::new(0); 8];
-    for place in 0..8 {
-        responders[place] = Responder::new(kinds[place]);
-    }
-    responders
+    kinds.map(Responder::new)
 }

@@ -46,8 +46,6 @@ pub(crate) fn write_head_before<C: Carrier>(
     ensures answers_the_length { result ≡ C.Carrier.meaning.head_length + answered.length }
     ensures writes_the_head { reply.new ≡ C.Carrier.meaning.write_head asked.tag answered.head ++ drop C.Carrier.meaning.head_length reply.old }
 {
-    let Ok(written) = C::write_head(asked.tag, answered.head, reply) else {
-        unreachable()
-    };
+    let written = C::write_head(asked.tag, answered.head, reply).unwrap();
     written + answered.length
 }

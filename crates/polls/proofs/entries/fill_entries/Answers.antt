@@ -29,16 +29,18 @@ loop-place-preserved g c =
     let row = c.index-rows-place.result in
     let x = controller_of c.in-Some.controller in
     let at_c : slice_get cs place ≡ Some x = sym c.get.ensures ∙ ap (option_map controller_of) c.in-Some.is in
-    let at_w = read_row row_of c.loop-place.rows ws place row c.loop-place-test.true c.loop-place.invariant.rest_of_rows c.index-rows-place.is in
-    let more : found < p.maxrent + 1 = ltb-true found (p.maxrent + 1) (sym c.if-may_return_more.ensures) in
-    let within : place < length rows = simp length-map c.loop-place-test.true in
+    let inside : place < length c.loop-place.rows = omega arith in
+    let at_w = read_row row_of c.loop-place.rows ws place row inside c.loop-place.invariant.rest_of_rows c.index-rows-place.is in
+    let more : found < p.maxrent + 1 = ltb-true found (p.maxrent + 1) (sym c.if-not-may_return_more.ensures) in
+    let within : place < length rows = simp length-map inside in
     elim c.if-qualifies.branch [
       | then-qualifies w ↦
           let room : 16 * found + 16 ≤ length c.loop-place.space = omega arith in
           let rows_are = map-set row_of c.loop-place.rows place w.returned_row.result ∙ ap (set rows place) w.returned_row.ensures in
           let bytes = entry_bytes (entry_for x (row_of row)) in
-          let front = written_front c.loop-place.space w.write_entry.new.space bytes found w.write_entry.ensures refl room in
-          let behind = written_behind c.loop-place.space w.write_entry.new.space bytes found w.write_entry.ensures refl room in
+          let wrote = w.copy_from_slice.ensures.after ∙ w.to_bytes.ensures.is_these_bytes ∙ ap entry_bytes w.entry.ensures in
+          let front = written_front c.loop-place.space w.copy_from_slice.new.self bytes found wrote refl room in
+          let behind = written_behind c.loop-place.space w.copy_from_slice.new.self bytes found wrote refl room in
           rw (w.rows-is, w.space-is, w.found-is) (return_it p (p.maxrent + 1) cs ws c.args.space.now place found x (row_of row) at_c at_w more rows c.loop-place.space c.loop-place.invariant within _ _ (sym w.if-qualifies.ensures) rows_are front behind)
       | else-qualifies w ↦
           rw (w.rows-is, w.space-is, w.found-is) (skip p (p.maxrent + 1) cs ws c.args.space.now place found x (row_of row) at_c at_w more rows c.loop-place.space c.loop-place.invariant within (sym w.if-qualifies.ensures))
@@ -53,12 +55,12 @@ returns-in_default g c =
     (no_more_controllers c.args.poll n cs ws c.args.space.now c.loop-place.place c.loop-place.found (sym c.in_default.ensures)) in
     record { counts_those_returned = e.counts; clears_those_returned_and_no_other = e.leaves_rows; writes_their_entries_and_no_other_byte = e.writes }
 
-pub returns-else-may_return_more : goal.returns-else-may_return_more
-returns-else-may_return_more g c =
+pub returns-then-not-may_return_more : goal.returns-then-not-may_return_more
+returns-then-not-may_return_more g c =
     let cs = (g.R.Register.meaning c.args.register.now).controllers in
     let ws = map row_of c.args.rows.now in
     let n = c.args.poll.maxrent + 1 in
-    let h = ltb-false c.loop-place.found n (sym c.if-may_return_more.ensures) in
+    let h = ltb-false c.loop-place.found n (sym c.if-not-may_return_more.ensures) in
     let e = ended c.args.poll n cs ws c.args.space.now c.loop-place.place c.loop-place.found (map row_of c.loop-place.rows) c.loop-place.space c.loop-place.invariant
     (no_more_entries c.args.poll n cs ws c.args.space.now c.loop-place.place c.loop-place.found h) in
     record { counts_those_returned = e.counts; clears_those_returned_and_no_other = e.leaves_rows; writes_their_entries_and_no_other_byte = e.writes }

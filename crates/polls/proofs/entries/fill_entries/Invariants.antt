@@ -1,4 +1,4 @@
-use Rattle.std.proofs.Common.{◌+◌, ◌-◌, map, length}
+use Rattle.std.proofs.Common.{◌+◌, map}
 use Rattle.health.specs.Rows.{row_of}
 use Rattle.polls.proofs.Entering.{Going}
 use Rattle.polls.proofs.entries.fill_entries.Given as goal
@@ -7,6 +7,3 @@ abbrev pub invariant-loop-place : goal.invariant-loop-place
 invariant-loop-place g l =
     Going l.poll (l.poll.maxrent + 1) (g.R.Register.meaning l.register).controllers (map row_of l.initial.rows) l.initial.space
     l.place l.found (map row_of l.rows) l.space
-
-abbrev pub decreases-loop-place : goal.decreases-loop-place
-decreases-loop-place g l = length l.initial.rows - l.place

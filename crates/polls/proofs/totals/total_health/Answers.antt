@@ -12,14 +12,14 @@ use Rattle.polls.proofs.totals.total_health.Goals as goal
 -- one controller more, from the last to the first
 joined : (f : ℕ → ℕ → ℕ) (field : HealthValues → ℕ) (cs : List ControllerValues) (k total new : ℕ) (c : ControllerValues) → 0 < k
     → slice_get cs (k - 1) ≡ Some c → total ≡ over f field (drop k cs) → new ≡ f (field c.health) total → new ≡ over f field (drop (k - 1) cs)
-joined f field cs k total new c h e t n = n ∙ ap (f (field c.health)) t ∙ sym (ap (over f field) (drop_last_nth cs k h c e))
+joined f field cs k total new c h e t n = n ∙ ap (f (field c.health)) t ∙ sym (ap (over f field) (drop_last_nth cs k c h e))
 
 pub loop-place-init : goal.loop-place-init
 loop-place-init g c =
     let cs = (g.R.Register.meaning c.args.register.now).controllers in
     let none : (f : ℕ → ℕ → ℕ) (field : HealthValues → ℕ) → 0 ≡ over f field (drop c.len-place.result cs) =
     λ f field. sym (at_drop_all (over f field) cs _ (omega (arith, c.len-place.ensures))) in
-    (none bit_or _, none max _, none max _)
+    let z = c.default-totals.ensures in (z.0 ∙ none bit_or _, z.1.0 ∙ none max _, z.1.1 ∙ none max _)
 
 pub loop-place-preserved-in-Some : goal.loop-place-preserved-in-Some
 loop-place-preserved-in-Some g c =

@@ -1,26 +1,16 @@
-use Rattle.std.proofs.Common.{◌<◌, [], ◌∷◌, ◌++◌, map, length, take, sym, refl, ap, ◌∙◌, arith}
-use Rattle.std.proofs.lemmas.List.{length-set, take_more_set, map_push, map_more, take_all}
+use Rattle.std.proofs.Common.{◌≡◌, ℕ, suc, ◌<◌, List, [], ◌∷◌, map, length, get_or, sym, refl, ◌∙◌, arith, rules}
 use Rattle.subsystem.specs.Responders.{responder_of, no_composite}
 use Rattle.subsystem.proofs.opening.responders_of_kinds.Goals as goal
 
-pub loop-place-init : goal.loop-place-init
-loop-place-init c = (refl, refl)
-
-pub loop-place-preserved : goal.loop-place-preserved
-loop-place-preserved c =
-    let rs = c.loop-place.responders in
-    let k = c.loop-place.place in
-    let i = c.loop-place.invariant in
-    let here : k < length rs = omega (arith, i.0) in
-    let there : k < length c.args.kinds = omega (arith, c.requires) in (
-      length-set rs k c.new.result ∙ i.0,
-      ap (map responder_of) (take_more_set rs k c.new.result here) ∙ map_push responder_of (take k rs) c.new.result
-          ∙ (λ j. i.1 j ++ c.new.ensures j ∷ []) ∙ sym (map_more no_composite c.args.kinds k 0 there),
-    )
+same_at_each : {X Y Z : Type 0} (f : X → Z) (g : Y → Z) (xs : List X) (ys : List Y) → length xs ≡ length ys
+    → ((k : ℕ) (d : X) (e : Y) → k < length ys → f (get_or xs k d) ≡ g (get_or ys k e)) → map f xs ≡ map g ys
+same_at_each f g [] [] l h = refl
+same_at_each f g [] (y ∷ ys) l h = absurd (omega arith)
+same_at_each f g (x ∷ xs) [] l h = absurd (omega arith)
+same_at_each f g (x ∷ xs) (y ∷ ys) l h = λ i. h 0 x y (omega arith) i ∷ same_at_each f g xs ys (omega arith) (λ k d e lt. h (suc k) d e (omega arith)) i
 
 pub returns : goal.returns
 returns c =
-    let rs = c.loop-place.responders in
-    let k = c.loop-place.place in
-    let i = c.loop-place.invariant in
-    ap (map responder_of) (sym (take_all k rs (omega (arith, i.0)))) ∙ i.1 ∙ ap (map no_composite) (take_all k c.args.kinds (omega (arith, c.requires)))
+    let is = c.map.ensures.items in
+    same_at_each responder_of no_composite c.map.result c.args.kinds (is.long ∙ sym c.requires)
+    (λ k d e lt. let called = is.at k e d (omega (arith, c.requires)) in search rules)
