@@ -2,9 +2,8 @@ ghost use Rattle.std.specs.Prelude.{◌≡◌};
 ghost use Rattle.register.specs.Functions.{function_number, function_read};
 
 use health::Health;
-use std::error::Error;
-use std::fmt;
 use table::Numbered;
+use thiserror::Error;
 
 // The PCI function that a controller is.
 #[derive(Clone, Copy, Debug, PartialEq, Eq)]
@@ -15,7 +14,8 @@ pub enum FunctionType {
 }
 
 // A number that is no function's.
-#[derive(Clone, Copy, Debug, PartialEq, Eq)]
+#[derive(Clone, Copy, Debug, PartialEq, Eq, Error)]
+#[error("no function type has number {0}")]
 pub struct UnknownFunctionType(pub u8);
 
 // The number of a function.
@@ -42,14 +42,6 @@ impl TryFrom<u8> for FunctionType {
         }
     }
 }
-
-impl fmt::Display for UnknownFunctionType {
-    fn fmt<W: fmt::Write>(&self, f: &mut fmt::Formatter<W>) -> fmt::Result {
-        write!(f, "no function type has number {}", self.0)
-    }
-}
-
-impl Error for UnknownFunctionType {}
 
 // A controller of the subsystem, as a register holds it.
 #[derive(Clone, Copy)]

@@ -1,17 +1,18 @@
 ghost use Rattle.std.specs.Prelude.{◌≡◌};
 ghost use Rattle.register.specs.RegisterRefusals.{register_refusal, climbed};
 
-use std::error::Error;
-use std::fmt;
 use table::TableFault;
+use thiserror::Error;
 use wire::Refused;
 
 // Why a register does not enroll a controller.
-#[derive(Clone, Copy, Debug, PartialEq, Eq)]
+#[derive(Clone, Copy, Debug, PartialEq, Eq, Error)]
 pub enum RegisterFault {
     // a controller has this Controller ID already
+    #[error("Controller ID {id} is enrolled already")]
     Present { id: u16 },
     // the register is at its capacity
+    #[error("register full: capacity {capacity}")]
     Full { capacity: usize },
 }
 
@@ -47,14 +48,3 @@ impl From<TableFault<u16>> for RegisterFault {
         }
     }
 }
-
-impl fmt::Display for RegisterFault {
-    fn fmt<W: fmt::Write>(&self, f: &mut fmt::Formatter<W>) -> fmt::Result {
-        match self {
-            RegisterFault::Present { id } => write!(f, "Controller ID {id} is enrolled already"),
-            RegisterFault::Full { capacity } => write!(f, "register full: capacity {capacity}"),
-        }
-    }
-}
-
-impl Error for RegisterFault {}

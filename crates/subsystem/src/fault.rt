@@ -3,33 +3,44 @@ ghost use Rattle.subsystem.specs.Faults.{fault_refusal, port_climbed};
 ghost use Rattle.subsystem.specs.declared.fault.Fault.TheVariants.{Carrier, Register};
 
 use register::RegisterFault;
-use std::error::Error;
-use std::fmt;
 use table::TableFault;
+use thiserror::Error;
 use wire::{Refused, WireFault};
 
 // Why the subsystem refuses a call.
-#[derive(Clone, Copy, Debug, PartialEq, Eq)]
+#[derive(Clone, Copy, Debug, PartialEq, Eq, Error)]
 pub enum Fault {
     // rows or port memory are shorter than this
+    #[error("rows or port memory too short: length {needed} needed")]
     MemoryTooShort { needed: usize },
     // an enrolment or a report of this controller is malformed
+    #[error("malformed enrolment or report of controller {id}")]
     Malformed { id: u16 },
     // kind 0
+    #[error("kind 0")]
     NoKind,
+    #[error("no Responder {responder}")]
     NoSuchResponder { responder: u8 },
+    #[error("Responder {responder} is of another kind")]
     ResponderOfAnotherKind { responder: u8 },
     // a port has this identifier already
+    #[error("port {id} was added already")]
     PortPresent { id: u8 },
     // no controller, or no port, has this identifier
+    #[error("unknown identifier {id}")]
     UnknownIdentifier { id: u16 },
+    #[error("a ninth Responder")]
     NinthResponder,
     // opening without a controller or without a Responder
+    #[error("opening without a controller or without a Responder")]
     NothingToOpen,
+    #[error("a ninth port")]
     NinthPort,
     // what a register refused
+    #[error("{0}")]
     Register(RegisterFault),
     // what a carrier refused, or space for writing that is too short
+    #[error("{0}")]
     Carrier(WireFault),
 }
 
@@ -108,36 +119,3 @@ impl From<TableFault<u8>> for Fault {
         }
     }
 }
-
-impl fmt::Display for Fault {
-    fn fmt<W: fmt::Write>(&self, f: &mut fmt::Formatter<W>) -> fmt::Result {
-        match self {
-            Fault::MemoryTooShort { needed } => write!(
-                f,
-                "rows or port memory too short: length {needed} needed"
-            ),
-            Fault::Malformed { id } => write!(
-                f,
-                "malformed enrolment or report of controller {id}"
-            ),
-            Fault::NoKind => write!(f, "kind 0"),
-            Fault::NoSuchResponder { responder } => write!(f, "no Responder {responder}"),
-            Fault::ResponderOfAnotherKind { responder } => write!(
-                f,
-                "Responder {responder} is of another kind"
-            ),
-            Fault::PortPresent { id } => write!(f, "port {id} was added already"),
-            Fault::UnknownIdentifier { id } => write!(f, "unknown identifier {id}"),
-            Fault::NinthResponder => write!(f, "a ninth Responder"),
-            Fault::NothingToOpen => write!(
-                f,
-                "opening without a controller or without a Responder"
-            ),
-            Fault::NinthPort => write!(f, "a ninth port"),
-            Fault::Register(fault) => write!(f, "{fault}"),
-            Fault::Carrier(fault) => write!(f, "{fault}"),
-        }
-    }
-}
-
-impl Error for Fault {}

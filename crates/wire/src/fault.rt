@@ -1,21 +1,25 @@
 ghost use Rattle.wire.specs.Refusals.{refusal};
 
 use crate::refused::Refused;
-use std::error::Error;
-use std::fmt;
+use thiserror::Error;
 
 // Why bytes are refused, or a message is not written.
-#[derive(Clone, Copy, Debug, PartialEq, Eq)]
+#[derive(Clone, Copy, Debug, PartialEq, Eq, Error)]
 pub enum WireFault {
     // The space lent for writing is shorter than needed.
+    #[error("space too short: length {needed} needed")]
     SpaceTooShort { needed: usize },
     // A message, head or entry is cut short, or a submission entry not of its length.
+    #[error("cut short, or of another length: {found}")]
     CutShort { found: usize },
     // Byte 0 is another.
+    #[error("wrong byte 0")]
     WrongFirstByte,
     // ROR or the message type, in the NMP byte at this place, is another.
+    #[error("wrong ROR or message type in byte {place}")]
     WrongMessageType { place: usize },
     // The opcode does not go with NVMe-MI Send or with NVMe-MI Receive.
+    #[error("opcode against NVMe-MI Send or Receive in byte 44")]
     WrongDirection,
 }
 
@@ -46,29 +50,6 @@ impl Refused for WireFault {
             WireFault::WrongFirstByte => 0,
             WireFault::WrongMessageType { place } => place,
             WireFault::WrongDirection => 44,
-        }
-    }
-}
-
-impl Error for WireFault {}
-
-impl fmt::Display for WireFault {
-    fn fmt<W: fmt::Write>(&self, f: &mut fmt::Formatter<W>) -> fmt::Result {
-        match self {
-            WireFault::SpaceTooShort { needed } => write!(
-                f,
-                "space too short: length {needed} needed"
-            ),
-            WireFault::CutShort { found } => write!(f, "cut short, or of another length: {found}"),
-            WireFault::WrongFirstByte => write!(f, "wrong byte 0"),
-            WireFault::WrongMessageType { place } => write!(
-                f,
-                "wrong ROR or message type in byte {place}"
-            ),
-            WireFault::WrongDirection => write!(
-                f,
-                "opcode against NVMe-MI Send or Receive in byte 44"
-            ),
         }
     }
 }
