@@ -3,6 +3,7 @@ use Rattle.std.proofs.Common.{◌≡◌, ℕ, zero, suc, ◌+◌, ◌-◌, ◌*�
 use native.Mathlib.Nat.{sub-zero}
 use borrow.Rule.Slice.PartMut.{put_mid}
 use Rattle.std.specs.List.{slice_get}
+use Rattle.std.specs.Ordering.{nat_cmp, is_lt}
 use Rattle.std.proofs.lemmas.List.{append_assoc, append-nil, take_all, drop_all, take-append-drop, drop-drop, drop_more, take_more, take_more_set, drop-set-lt, length-map, get_or-map}
 use Rattle.std.proofs.lemmas.Slice.{take-put_mid, drop-put_mid}
 use Rattle.std.proofs.lemmas.Bool.{lt-ltb, le-ltb, lt-leb, cases_lt}
@@ -13,6 +14,9 @@ use Rattle.register.specs.Controllers.{ControllerValues, first_from}
 use Rattle.model.specs.Requests.{qualifies, chosen, cleared, entry_for, entries}
 use Rattle.polls.specs.Polls.{row_after}
 use Rattle.polls.proofs.Steps.{drop_nth, drop_nth_none}
+
+not_below : (m n : ℕ) → n ≤ m → is_lt (nat_cmp m n) ≡ false
+not_below m n h = grind arith
 
 -- what a poll gives: how many controllers, their entries, and the rows after it
 pub record Polled : Type 0 where
@@ -105,7 +109,7 @@ module _ (p : ControllerHealthPoll) where
     first_places_passed (c ∷ cs) (w ∷ ws) =
         ⊎_elim
         (λ (below : c.id < p.sctlid). simp (lt-ltb c.id p.sctlid below) (ap (with_other w) (first_places_passed cs ws) ∙ sym (head_passed n c cs w ws (below_passed c w below))))
-        (λ (above : p.sctlid ≤ c.id). simp (le-ltb c.id p.sctlid above))
+        (λ (above : p.sctlid ≤ c.id). simp (not_below c.id p.sctlid above))
         (cases_lt c.id p.sctlid)
 
   -- ---- under way: at most n entries of these controllers and rows, written to this space
