@@ -3,20 +3,17 @@ use Rattle.std.proofs.Common.{◌≡◌, ℕ, zero, suc, ◌+◌, ◌-◌, ◌*�
 use native.Mathlib.Nat.{sub-zero}
 use borrow.Rule.Slice.PartMut.{put_mid}
 use Rattle.std.specs.List.{slice_get}
-use Rattle.std.specs.Ordering.{nat_cmp, is_lt}
 use Rattle.std.proofs.lemmas.List.{append_assoc, append-nil, take_all, drop_all, take-append-drop, drop-drop, drop_more, take_more, take_more_set, drop-set-lt, length-map, get_or-map}
 use Rattle.std.proofs.lemmas.Slice.{take-put_mid, drop-put_mid}
-use Rattle.std.proofs.lemmas.Bool.{lt-ltb, le-ltb, lt-leb, cases_lt}
+use Rattle.std.proofs.lemmas.Bool.{lt-ltb, lt-leb, cases_lt}
 use Rattle.health.specs.Rows.{RowValues, clear_row}
 use Rattle.commands.specs.ControllerData.{entry_bytes}
 use Rattle.commands.specs.declared.controller_poll.ControllerHealthPoll.{ControllerHealthPoll}
+use Rattle.table.proofs.Places.{not_below}
 use Rattle.register.specs.Controllers.{ControllerValues, first_from}
 use Rattle.model.specs.Requests.{qualifies, chosen, cleared, entry_for, entries}
 use Rattle.polls.specs.Polls.{row_after}
 use Rattle.polls.proofs.Steps.{drop_nth, drop_nth_none}
-
-not_below : (m n : ℕ) → n ≤ m → is_lt (nat_cmp m n) ≡ false
-not_below m n h = grind arith
 
 -- what a poll gives: how many controllers, their entries, and the rows after it
 pub record Polled : Type 0 where

@@ -2,13 +2,14 @@
 use Rattle.std.proofs.Common.{◌≡◌, ℕ, zero, suc, ◌+◌, ◌-◌, ◌^◌, ◌<◌, ◌≤◌, true, false, eqb, List, [], ◌∷◌, map, length, get_or, set, Some, None, sym, refl, ap, ◌∙◌, subst, ap₂, ⊎_elim, arith}
 use lib.Bits.{bit_or, or_zero_l, or_zero_r}
 use Rattle.std.specs.List.{slice_get}
-use Rattle.std.proofs.lemmas.Bool.{lt-ltb, le-ltb, eq-eqb, ne_eqb, cases_lt, or_right}
+use Rattle.std.proofs.lemmas.Bool.{lt-ltb, eq-eqb, ne_eqb, cases_lt, or_right}
 use Rattle.health.specs.Values.{reported_health}
 use Rattle.health.specs.Words.{without}
 use Rattle.health.specs.Rows.{RowValues, clear_row, gaining}
 use Rattle.health.specs.Status.{events_in}
 use Rattle.health.specs.declared.report.Report.{Report}
 use Rattle.health_rules.specs.FlagRule.{gained}
+use Rattle.table.proofs.Places.{not_below}
 use Rattle.register.specs.Controllers.{ControllerValues, first_from, present, written}
 use Rattle.polls.proofs.Steps.{nth_within}
 use Rattle.model.proofs.Controllers.{Ascends}
@@ -35,7 +36,7 @@ absent_past id [] e = refl
 absent_past id (x ∷ cs) e =
     ⊎_elim
     (λ (lt : x.id < id). simp (ne_eqb x.id id (λ q. omega arith)) (absent_past id cs (simp (lt-ltb x.id id lt) at e)))
-    (λ (ge : id ≤ x.id). let q : Some x ≡ None = simp (le-ltb x.id id ge) at e in let z : ◌≡◌ {A = ℕ} 0 1 = cc in absurd (omega arith))
+    (λ (ge : id ≤ x.id). let q : Some x ≡ None = simp (not_below x.id id ge) at e in let z : ◌≡◌ {A = ℕ} 0 1 = cc in absurd (omega arith))
     (cases_lt x.id id)
 
 -- IDs below the first are absent
@@ -52,7 +53,7 @@ absent_there id m (x ∷ cs) c a e h =
     ⊎_elim
     (λ (lt : x.id < id). simp (ne_eqb x.id id (λ q. omega arith)) (absent_there id (x.id + 1) cs c a.2 (simp (lt-ltb x.id id lt) at e) h))
     (λ (ge : id ≤ x.id).
-    let q : Some x ≡ Some c = simp (le-ltb x.id id ge) at e in
+    let q : Some x ≡ Some c = simp (not_below x.id id ge) at e in
     let s : x ≡ c = cc in
     let ne : x.id ≡ id → ⊥ = λ w. h (ap (λ v. v.id) (sym s) ∙ w) in
     simp (ne_eqb x.id id ne) (absent_below id (x.id + 1) cs a.2 (omega arith)))
