@@ -9,6 +9,7 @@ use Rattle.std.proofs.lemmas.Bool.{lt-ltb, lt-leb, cases_lt}
 use Rattle.health.specs.Rows.{RowValues, clear_row}
 use Rattle.commands.specs.ControllerData.{entry_bytes}
 use Rattle.commands.specs.declared.controller_poll.ControllerHealthPoll.{ControllerHealthPoll}
+use Rattle.table.proofs.Places.{not_below}
 use Rattle.register.specs.Controllers.{ControllerValues, first_from}
 use Rattle.register.proofs.Below.{not_below}
 use Rattle.model.specs.Requests.{qualifies, chosen, cleared, entry_for, entries}

@@ -2,13 +2,14 @@
 use Rattle.std.proofs.Common.{◌≡◌, ℕ, zero, suc, ◌+◌, ◌-◌, ◌^◌, ◌<◌, ◌≤◌, true, false, eqb, List, [], ◌∷◌, map, length, get_or, set, Some, None, sym, refl, ap, ◌∙◌, subst, ap₂, ⊎_elim, arith}
 use lib.Bits.{bit_or, or_zero_l, or_zero_r}
 use Rattle.std.specs.List.{slice_get}
-use Rattle.std.proofs.lemmas.Bool.{lt-ltb, le-ltb, eq-eqb, ne_eqb, cases_lt, or_right}
+use Rattle.std.proofs.lemmas.Bool.{lt-ltb, eq-eqb, ne_eqb, cases_lt, or_right}
 use Rattle.health.specs.Values.{reported_health}
 use Rattle.health.specs.Words.{without}
 use Rattle.health.specs.Rows.{RowValues, clear_row, gaining}
 use Rattle.health.specs.Status.{events_in}
 use Rattle.health.specs.declared.report.Report.{Report}
 use Rattle.health_rules.specs.FlagRule.{gained}
+use Rattle.table.proofs.Places.{not_below}
 use Rattle.register.specs.Controllers.{ControllerValues, first_from, present, written}
 use Rattle.register.proofs.Below.{not_below}
 use Rattle.polls.proofs.Steps.{nth_within}

@@ -1,11 +1,11 @@
 -- The first place at or above a number, and what stands there.
-use Rattle.std.proofs.Common.{◌≡◌, ℕ, suc, ◌+◌, ◌<◌, ◌≤◌, Bool, true, false, cond, not, ltb, List, [], ◌∷◌, length, sym, refl, ap, ◌∙◌, arith, ltb-false}
+use Rattle.std.proofs.Common.{◌≡◌, ℕ, suc, ◌+◌, ◌≤◌, Bool, false, cond, not, List, [], ◌∷◌, length, sym, refl, ◌∙◌, arith}
 use Rattle.std.proofs.lemmas.List.{length-take-le}
 use Rattle.std.proofs.lemmas.List.Recursion.{is_position_or_len}
 use Rattle.std.proofs.lemmas.List.Sums.{prefix_len-le-length}
 use Rattle.std.specs.List.{position, position_or_len, slice_get}
 use Rattle.std.specs.Option.{unwrap_or, option_map_or}
-use Rattle.std.specs.Ordering.{is_lt, is_eq, is_ge}
+use Rattle.std.specs.Ordering.{is_lt, is_eq, is_ge, nat_cmp}
 use Rattle.std.specs.declared.cmp.Ordering.{Ordering}
 use Rattle.std.specs.declared.cmp.Ordering.TheVariants.{Less, Equal, Greater}
 use Rattle.table.specs.Orders.{first_place, is_there}
@@ -35,5 +35,9 @@ module _ {K T : Type 0} (cmp : K → K → Ordering) (key : T → K) (k : K) whe
   pub there_at : (xs : List T) → is_there cmp key k xs ≡ option_map_or (λ x. is_eq (cmp (key x) k)) (slice_get xs (first_place cmp key k xs)) false
   there_at [] = refl
   there_at (y ∷ ys) = let h = there_at ys in grind arith
+
+-- for callers with numbers: a number at or above another is not below it
+pub not_below : (m n : ℕ) → n ≤ m → is_lt (nat_cmp m n) ≡ false
+not_below m n h = grind arith
 
 pub ruleset places = (place_within, length-take-le)

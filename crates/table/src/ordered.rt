@@ -31,6 +31,7 @@ pub fn first_place<T: Numbered>(records: &[T], number: T::Number) -> usize
 }
 
 // The first place at or above a number: `Ok` where its record has that number, `Err` where a record with it would go.
+// No `binary_search`: its answer is known for records that ascend, and this one for all.
 #[tactic(auto, using(crate::proofs::Places::there_at))]
 fn locate<T: Numbered>(records: &[T], number: T::Number) -> Result<usize, usize>
     ensures { result ≡ search_answer T.Number.cmp T.key number records.now }
