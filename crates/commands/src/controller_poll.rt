@@ -4,7 +4,7 @@ ghost use Rattle.commands.specs.ControllerPoll.{poll_nmd0, poll_nmd1, poll_in};
 use crate::dword::is_set;
 
 // The changes that make a controller qualify for an entry: NMD1 bits 4:0 of a Controller Health Status Poll.
-#[derive(Clone, Copy)]
+#[derive(Clone, Copy, Default)]
 pub struct Selection {
     pub cwarn: bool,
     pub spare: bool,
@@ -14,7 +14,7 @@ pub struct Selection {
 }
 
 // What a Controller Health Status Poll asks for.
-#[derive(Clone, Copy)]
+#[derive(Clone, Copy, Default)]
 pub struct ControllerHealthPoll {
     // Report All: controllers qualify whatever their changed flags
     pub report_all: bool,

@@ -3,6 +3,7 @@ ghost use Rattle.console.specs.Hex.{hex_digit, Reads};
 ghost use Rattle.console.specs.declared.hex.HexFault.TheVariants.{OutOfMemory};
 
 use std::alloc::{AllocError, AllocFailed, Global};
+use std::error::Error;
 use std::fmt;
 
 // Bytes as pairs of hex digits.
@@ -21,11 +22,13 @@ impl fmt::Display for HexBytes<'_> {
 }
 
 // Why a text holds no bytes.
-#[derive(Clone, Copy)]
+#[derive(Clone, Copy, Debug, PartialEq, Eq)]
 pub enum HexFault {
     NotHexPairs,
     OutOfMemory,
 }
+
+impl Error for HexFault {}
 
 impl From<AllocError> for HexFault {
     ghost from_gives = { λ _ r. r ≡ OutOfMemory };
