@@ -109,26 +109,21 @@ impl Drive {
         };
         match call {
             ServiceCall::Report { id, report } => {
-                subsystem.report(register, memory.rows.slice_mut(), id, report)?;
-                Ok(Grant::Done)
+                subsystem.report(register, memory.rows.slice_mut(), id, report)?
             }
             ServiceCall::Link { id, up } => {
-                subsystem.set_link(memory.ports.slice_mut(), id, up)?;
-                Ok(Grant::Done)
+                subsystem.set_link(memory.ports.slice_mut(), id, up)?
             }
-            ServiceCall::Status(status) => {
-                subsystem.set_status(status);
-                Ok(Grant::Done)
-            }
+            ServiceCall::Status(status) => subsystem.set_status(status),
             ServiceCall::Request(request) => {
                 let reply = serve_request(subsystem, register, memory, request)?;
-                Ok(Grant::Replied(reply))
+                return Ok(Grant::Replied(reply));
             }
             ServiceCall::Reset { responder } => {
-                subsystem.reset(register, memory.rows.slice_mut(), responder)?;
-                Ok(Grant::Done)
+                subsystem.reset(register, memory.rows.slice_mut(), responder)?
             }
         }
+        Ok(Grant::Done)
     }
 }
 

@@ -48,7 +48,7 @@ impl<'a> Fields<'a> {
         Ok(u8::try_from(self.number(0xff)?)?)
     }
 
-    // 0 or 1.
+    // 0 or 1. This and `link` have a match each: one function of both words and of the fault is no shorter.
     pub fn flag(&mut self) -> Result<bool, LineFault> {
         match self.word()? {
             "0" => Ok(false),

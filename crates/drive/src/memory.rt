@@ -47,20 +47,22 @@ impl Memory {
             id: 0,
             link_up: false,
         };
-        Memory {
+        let mut memory = Memory {
             rows: Lent {
                 memory: [Row::clear(); ROWS],
-                lent: 32,
+                lent: 0,
             },
             ports: Lent {
                 memory: [port; PORTS],
-                lent: 8,
+                lent: 0,
             },
             reply: Lent {
                 memory: [0; REPLY],
-                lent: 4168,
+                lent: 0,
             },
-        }
+        };
+        memory.lend_by_default();
+        memory
     }
 
     // As at the start.

@@ -48,7 +48,7 @@ fn show_message<C: Carrier>(
             show(
                 rt,
                 written.map(|length| HexBytes {
-                    bytes: space.get(0..length).unwrap_or(&[]),
+                    bytes: &space[..length],
                 }),
             )
         }
