@@ -71,16 +71,12 @@ pub fn read_hex(heap: Global, text: &[u8]) -> Result<Vec<u8>, HexFault>
     ensures { Reads result text.now }
 {
     let mut bytes = Vec::new(heap);
-    let mut rest = text;
-    while let [high, low, behind @ ..] = rest {
-        let Some(high) = digit(*high) else {
-            return Err(HexFault::NotHexPairs);
-        };
-        let Some(low) = digit(*low) else {
+    let (pairs, rest) = text.as_chunks::<2>();
+    for [high, low] in pairs {
+        let (Some(high), Some(low)) = (digit(*high), digit(*low)) else {
             return Err(HexFault::NotHexPairs);
         };
         bytes.push(high * 16 + low)?;
-        rest = behind;
     }
     if rest.len() != 0 {
         return Err(HexFault::NotHexPairs);
