@@ -7,6 +7,11 @@ abbrev pub prefixed : List ℕ → Option (List ℕ) → Option (List ℕ)
 prefixed before (Some bytes) = Some (before ++ bytes)
 prefixed before None = None
 
+-- nothing is read yet
+pub none_read : (bytes : Option (List ℕ)) → prefixed [] bytes ≡ bytes
+none_read (Some bytes) = refl
+none_read None = refl
+
 -- a byte is pushed behind those read before
 pub pushed : (before : List ℕ) (high low : ℕ) (rest : Option (List ℕ))
     → prefixed (before ++ ((high * 16 + low) ∷ [])) rest ≡ prefixed before (byte_before (Some high) (Some low) rest)

@@ -1,4 +1,4 @@
-ghost use Rattle.std.specs.Prelude.{◌≡◌};
+ghost use Rattle.std.specs.Prelude.{◌≡◌, ◌<◌, IfSome};
 ghost use Rattle.console.specs.Hex.{hex_digit, Reads};
 ghost use Rattle.console.specs.declared.hex.HexFault.TheVariants.{OutOfMemory};
 
@@ -56,7 +56,8 @@ impl fmt::Display for HexFault {
 }
 
 fn digit(code: u8) -> Option<u8>
-    ensures { result ≡ hex_digit code }
+    ensures is_the_digit { result ≡ hex_digit code }
+    ensures is_below_16 { IfSome result (λ value. value < 16) }
 {
     match code {
         b'0'..=b'9' => Some(code - b'0'),

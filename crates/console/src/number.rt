@@ -6,7 +6,7 @@ ghost use Rattle.console.specs.Numbers.{decimal_up_to};
 pub fn read_decimal(text: &[u8], most: u16) -> Option<u16>
     ensures { result ≡ decimal_up_to most text.now }
 {
-    if text.len() == 0 {
+    if text.is_empty() {
         return None;
     }
     let mut number = 0u32;

@@ -1,7 +1,11 @@
 use Rattle.std.proofs.Common.{◌≡◌, ◌/◌, ◌*◌, drop, ap, length, vec_items, sym, ◌∙◌, arith}
 use Rattle.std.proofs.lemmas.Grind.{common_steps}
-use Rattle.console.proofs.Pairs.{pushed, pair_at, digit_left}
+use Rattle.console.specs.Hex.{hex_bytes}
+use Rattle.console.proofs.Pairs.{none_read, pushed, pair_at, digit_left}
 use Rattle.console.proofs.hex.read_hex.Goals as goal
+
+pub loop-high-init : goal.loop-high-init
+loop-high-init c = rw c.new-bytes.ensures.items (none_read (hex_bytes c.args.text.now))
 
 pub returns-in_default : goal.returns-in_default
 returns-in_default c =
