@@ -1,5 +1,5 @@
 -- Bytes that were read stand before those of the text that is left.
-use Rattle.std.proofs.Common.{◌≡◌, ℕ, zero, suc, ◌+◌, ◌*◌, ◌<◌, ◌≤◌, List, [], ◌∷◌, ◌++◌, length, get_or, drop, Some, None, Option, refl, sym, ap, ◌∙◌, append_assoc, arith}
+use Rattle.std.proofs.Common.{◌≡◌, ℕ, zero, suc, ◌+◌, ◌*◌, ◌%◌, ◌<◌, ◌≤◌, List, [], ◌∷◌, ◌++◌, length, get_or, drop, Some, None, Option, refl, ap, ◌∙◌, append_assoc, arith}
 use Rattle.std.specs.Simd.{first_chunks}
 use Rattle.console.specs.Hex.{hex_digit, hex_bytes, byte_before}
 
@@ -32,13 +32,14 @@ pair_at (suc count) (a ∷ (b ∷ behind)) (suc i) le h =
     let next : (suc i + 1) * 2 ≡ suc (suc ((i + 1) * 2)) = omega arith in
     rw (here, next) (pair_at count behind i (omega arith) (omega arith))
 
-odd : (text : List ℕ) → length text ≡ 1 → hex_bytes text ≡ None
+none_behind : (high low : Option ℕ) → byte_before high low None ≡ None
+none_behind (Some high) (Some low) = refl
+none_behind (Some high) None = refl
+none_behind None low = refl
+
+-- a digit is left over
+pub odd : (text : List ℕ) → length text % 2 ≡ 1 → hex_bytes text ≡ None
 odd [] e = absurd (omega arith)
 odd (code ∷ []) e = refl
-odd (a ∷ (b ∷ behind)) e = absurd (omega arith)
-
--- one digit is left behind the pairs
-pub digit_left : (before text rest : List ℕ) (i : ℕ) → rest ≡ drop (i * 2) text → length rest ≡ 1
-    → prefixed before (hex_bytes (drop (i * 2) text)) ≡ hex_bytes text → hex_bytes text ≡ None
-digit_left before text rest i behind one read =
-    sym read ∙ ap (λ t. prefixed before (hex_bytes t)) (sym behind) ∙ ap (prefixed before) (odd rest one)
+odd (a ∷ (b ∷ behind)) e =
+    ap (byte_before (hex_digit a) (hex_digit b)) (odd behind (omega arith)) ∙ none_behind (hex_digit a) (hex_digit b)

@@ -68,6 +68,7 @@ fn digit(code: u8) -> Option<u8>
 }
 
 // The bytes that pairs of hex digits name.
+#[tactic(auto, using(crate::proofs::Pairs::none_read, crate::proofs::Pairs::odd))]
 pub fn read_hex(heap: Global, text: &[u8]) -> Result<Vec<u8>, HexFault>
     ensures { Reads result text.now }
 {
