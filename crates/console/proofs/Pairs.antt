@@ -1,29 +1,45 @@
 -- Bytes that were read stand before those of the text that is left.
-use Rattle.std.proofs.Common.{◌≡◌, ℕ, ◌+◌, ◌-◌, ◌*◌, List, [], ◌∷◌, ◌++◌, length, get_or, take, drop, Some, None, Option, sym, refl, ap, ◌∙◌, append_assoc, arith}
-use Rattle.std.proofs.lemmas.List.{take_rest}
+use Rattle.std.proofs.Common.{◌≡◌, ℕ, zero, suc, ◌+◌, ◌*◌, ◌%◌, ◌<◌, ◌≤◌, List, [], ◌∷◌, ◌++◌, length, get_or, drop, Some, None, Option, refl, ap, ◌∙◌, append_assoc, arith}
+use Rattle.std.specs.Simd.{first_chunks}
 use Rattle.console.specs.Hex.{hex_digit, hex_bytes, byte_before}
 
 abbrev pub prefixed : List ℕ → Option (List ℕ) → Option (List ℕ)
 prefixed before (Some bytes) = Some (before ++ bytes)
 prefixed before None = None
 
-pushed : (before : List ℕ) (high low : ℕ) (rest : Option (List ℕ))
+-- nothing is read yet
+pub none_read : (bytes : Option (List ℕ)) → prefixed [] bytes ≡ bytes
+none_read (Some bytes) = refl
+none_read None = refl
+
+-- a byte is pushed behind those read before
+pub pushed : (before : List ℕ) (high low : ℕ) (rest : Option (List ℕ))
     → prefixed (before ++ ((high * 16 + low) ∷ [])) rest ≡ prefixed before (byte_before (Some high) (Some low) rest)
 pushed before high low (Some bytes) = ap {B = Option (List ℕ)} (λ l. Some l) (append_assoc before ((high * 16 + low) ∷ []) bytes)
 pushed before high low None = refl
 
-no_digit : (n : ℕ) → ◌≡◌ {A = Option ℕ} None (Some n) → ⊥
-no_digit n e = let z : ◌≡◌ {A = ℕ} 0 1 = cc in omega arith
+-- the text that a pair begins: its byte, and then the bytes of the text behind it
+pub pair_at : (count : ℕ) (text : List ℕ) (i : ℕ) → count * 2 ≤ length text → i < count
+    → hex_bytes (drop (i * 2) text)
+    ≡ byte_before (hex_digit (get_or (get_or (first_chunks 2 count text) i []) 0 0)) (hex_digit (get_or (get_or (first_chunks 2 count text) i []) 1 0))
+    (hex_bytes (drop ((i + 1) * 2) text))
+pair_at zero text i le h = absurd (omega arith)
+pair_at (suc count) [] i le h = absurd (omega arith)
+pair_at (suc count) (a ∷ []) i le h = absurd (omega arith)
+pair_at (suc count) (a ∷ (b ∷ behind)) zero le h = refl
+pair_at (suc count) (a ∷ (b ∷ behind)) (suc i) le h =
+    let here : suc i * 2 ≡ suc (suc (i * 2)) = omega arith in
+    let next : (suc i + 1) * 2 ≡ suc (suc ((i + 1) * 2)) = omega arith in
+    rw (here, next) (pair_at count behind i (omega arith) (omega arith))
 
--- a turn of the loop: a pair is read, and its byte stands behind those read before
-pub pair_read : (before after rest : List ℕ) (high low : ℕ) → hex_digit (get_or rest 0 0) ≡ Some high → hex_digit (get_or rest 1 0) ≡ Some low
-    → after ≡ before ++ ((high * 16 + low) ∷ [])
-    → prefixed after (hex_bytes (take (length rest - 2) (drop 2 rest))) ≡ prefixed before (hex_bytes rest)
-pair_read before after [] high low h l e = absurd (no_digit high h)
-pair_read before after (a ∷ []) high low h l e = absurd (no_digit low l)
-pair_read before after (a ∷ (b ∷ behind)) high low h l e =
-    ap (λ t. prefixed after (hex_bytes t)) (take_rest (a ∷ (b ∷ behind)) 2)
-    ∙ ap (λ o. prefixed o (hex_bytes behind)) e
-    ∙ pushed before high low (hex_bytes behind)
-    ∙ ap (λ d. prefixed before (byte_before d (Some low) (hex_bytes behind))) (sym h)
-    ∙ ap (λ d. prefixed before (byte_before (hex_digit a) d (hex_bytes behind))) (sym l)
+none_behind : (high low : Option ℕ) → byte_before high low None ≡ None
+none_behind (Some high) (Some low) = refl
+none_behind (Some high) None = refl
+none_behind None low = refl
+
+-- a digit is left over
+pub odd : (text : List ℕ) → length text % 2 ≡ 1 → hex_bytes text ≡ None
+odd [] e = absurd (omega arith)
+odd (code ∷ []) e = refl
+odd (a ∷ (b ∷ behind)) e =
+    ap (byte_before (hex_digit a) (hex_digit b)) (odd behind (omega arith)) ∙ none_behind (hex_digit a) (hex_digit b)

@@ -1,8 +1,9 @@
-ghost use Rattle.std.specs.Prelude.{◌≡◌};
+ghost use Rattle.std.specs.Prelude.{◌≡◌, ◌<◌, IfSome};
 ghost use Rattle.console.specs.Hex.{hex_digit, Reads};
 ghost use Rattle.console.specs.declared.hex.HexFault.TheVariants.{OutOfMemory};
 
 use std::alloc::{AllocError, AllocFailed, Global};
+use std::error::Error;
 use std::fmt;
 
 // Bytes as pairs of hex digits.
@@ -21,11 +22,13 @@ impl fmt::Display for HexBytes<'_> {
 }
 
 // Why a text holds no bytes.
-#[derive(Clone, Copy)]
+#[derive(Clone, Copy, Debug, PartialEq, Eq)]
 pub enum HexFault {
     NotHexPairs,
     OutOfMemory,
 }
+
+impl Error for HexFault {}
 
 impl From<AllocError> for HexFault {
     ghost from_gives = { λ _ r. r ≡ OutOfMemory };
@@ -53,7 +56,8 @@ impl fmt::Display for HexFault {
 }
 
 fn digit(code: u8) -> Option<u8>
-    ensures { result ≡ hex_digit code }
+    ensures is_the_digit { result ≡ hex_digit code }
+    ensures is_below_16 { IfSome result (λ value. value < 16) }
 {
     match code {
         b'0'..=b'9' => Some(code - b'0'),
@@ -64,20 +68,17 @@ fn digit(code: u8) -> Option<u8>
 }
 
 // The bytes that pairs of hex digits name.
+#[tactic(auto, using(crate::proofs::Pairs::none_read, crate::proofs::Pairs::odd))]
 pub fn read_hex(heap: Global, text: &[u8]) -> Result<Vec<u8>, HexFault>
     ensures { Reads result text.now }
 {
     let mut bytes = Vec::new(heap);
-    let mut rest = text;
-    while let [high, low, behind @ ..] = rest {
-        let Some(high) = digit(*high) else {
-            return Err(HexFault::NotHexPairs);
-        };
-        let Some(low) = digit(*low) else {
+    let (pairs, rest) = text.as_chunks::<2>();
+    for [high, low] in pairs {
+        let (Some(high), Some(low)) = (digit(*high), digit(*low)) else {
             return Err(HexFault::NotHexPairs);
         };
         bytes.push(high * 16 + low)?;
-        rest = behind;
     }
     if rest.len() != 0 {
         return Err(HexFault::NotHexPairs);

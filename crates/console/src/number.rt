@@ -6,12 +6,11 @@ ghost use Rattle.console.specs.Numbers.{decimal_up_to};
 pub fn read_decimal(text: &[u8], most: u16) -> Option<u16>
     ensures { result ≡ decimal_up_to most text.now }
 {
-    if text.len() == 0 {
+    if text.is_empty() {
         return None;
     }
     let mut number = 0u32;
-    let mut rest = text;
-    while let [code, behind @ ..] = rest {
+    for code in text {
         if *code < b'0' || *code > b'9' {
             return None;
         }
@@ -19,7 +18,6 @@ pub fn read_decimal(text: &[u8], most: u16) -> Option<u16>
         if number > u32::from(most) {
             return None;
         }
-        rest = behind;
     }
     Some(number as u16)
 }

@@ -2,7 +2,7 @@ use crate::hex::HexBytes;
 use crate::refusal::RefusalText;
 use commands::{ControllerHealthData, HealthCommand, ResponseStatus, SubsystemHealthData};
 use std::fmt;
-use wire::Reply;
+use wire::{Reply, WireFault};
 
 // A reply in print, read in the light of the request that it answers, where that is known.
 #[derive(Clone, Copy)]
@@ -36,14 +36,21 @@ impl fmt::Display for ReplyText<'_> {
 
 // Bytes that are not taken apart.
 fn write_rest<W: fmt::Write>(what: &str, rest: &[u8], f: &mut fmt::Formatter<W>) -> fmt::Result {
-    if rest.len() == 0 {
+    if rest.is_empty() {
         return Ok(());
     }
     let bytes = HexBytes { bytes: rest };
     write!(f, "\n  {what}: {bytes}")
 }
 
-// The entries, as many as NMRESP bits 23:16 say.
+// Data that is refused.
+fn write_refusal<W: fmt::Write>(fault: WireFault, f: &mut fmt::Formatter<W>) -> fmt::Result {
+    let refused = RefusalText { fault };
+    write!(f, "\n  {refused}")
+}
+
+// The entries, as many as NMRESP bits 23:16 say. `chunks` would be no plainer here: it ends before an entry that is missing, and that is
+// refused with the length found.
 fn write_entries<W: fmt::Write>(
     count: u32,
     payload: &[u8],
@@ -54,13 +61,7 @@ fn write_entries<W: fmt::Write>(
     for _ in 0..count {
         match ControllerHealthData::read(rest) {
             Ok(entry) => write_entry(entry, f)?,
-            Err(fault) => {
-                let refused = RefusalText { fault };
-                return write!(f, "\n  {refused}");
-            }
-        }
-        if rest.len() < 16 {
-            return Ok(());
+            Err(fault) => return write_refusal(fault, f),
         }
         rest = &rest[16..];
     }
@@ -94,15 +95,9 @@ fn write_subsystem<W: fmt::Write>(payload: &[u8], f: &mut fmt::Formatter<W>) -> 
     match SubsystemHealthData::read(payload) {
         Ok(data) => {
             write_subsystem_health(data, f)?;
-            if payload.len() < 8 {
-                return Ok(());
-            }
             write_rest("unexpected data", &payload[8..], f)
         }
-        Err(fault) => {
-            let refused = RefusalText { fault };
-            write!(f, "\n  {refused}")
-        }
+        Err(fault) => write_refusal(fault, f),
     }
 }
 
@@ -143,8 +138,8 @@ fn write_temperature<W: fmt::Write>(code: u8, f: &mut fmt::Formatter<W>) -> fmt:
         0x81..=0xc3 => write!(f, "reserved {code:02X}h"),
         0xc4 => write!(f, "-60 C or less"),
         _ => {
-            let below = 255 - code + 1;
-            write!(f, "-{below} C")
+            let celsius = code.cast_signed();
+            write!(f, "{celsius} C")
         }
     }
 }

@@ -2,45 +2,57 @@ use console::HexBytes;
 use std::fmt;
 use subsystem::Fault;
 
-// What a call is answered.
+// What a call is granted.
 #[derive(Clone, Copy)]
-pub enum Answer {
-    Granted,
+pub enum Grant<'a> {
+    Done,
     // the number of the Responder
     Numbered(u8),
-    // the length of the reply
-    Replied(usize),
-    Refused(Fault),
-    Misuse,
+    // the bytes of the reply
+    Replied(&'a [u8]),
     Flags(u16),
     Code(u8),
 }
 
-// An answer in print, with the reply where it has one.
-#[derive(Clone, Copy)]
-pub struct AnswerText<'a> {
-    pub answer: Answer,
-    pub reply: &'a [u8],
-}
-
-impl fmt::Display for AnswerText<'_> {
+impl fmt::Display for Grant<'_> {
     fn fmt<W: fmt::Write>(&self, f: &mut fmt::Formatter<W>) -> fmt::Result {
-        match self.answer {
-            Answer::Granted => write!(f, "granted"),
-            Answer::Numbered(number) => write!(f, "granted {number}"),
-            Answer::Replied(_) => {
-                let reply = HexBytes { bytes: self.reply };
+        match self {
+            Grant::Done => write!(f, "granted"),
+            Grant::Numbered(number) => write!(f, "granted {number}"),
+            Grant::Replied(bytes) => {
+                let reply = HexBytes { bytes };
                 write!(f, "granted {reply}")
             }
-            Answer::Refused(fault) => {
+            Grant::Flags(flags) => write!(f, "{flags:04X}"),
+            Grant::Code(code) => write!(f, "{code:02X}"),
+        }
+    }
+}
+
+// Why a call is not granted.
+#[derive(Clone, Copy)]
+pub enum CallFault {
+    Refused(Fault),
+    // out of phase
+    Misuse,
+}
+
+impl From<Fault> for CallFault {
+    fn from(fault: Fault) -> CallFault {
+        CallFault::Refused(fault)
+    }
+}
+
+impl fmt::Display for CallFault {
+    fn fmt<W: fmt::Write>(&self, f: &mut fmt::Formatter<W>) -> fmt::Result {
+        match self {
+            CallFault::Refused(fault) => {
                 let number = fault.number();
                 let layer = fault.layer();
                 let place = fault.place();
                 write!(f, "refused {number} layer {layer} place {place}")
             }
-            Answer::Misuse => write!(f, "misuse"),
-            Answer::Flags(flags) => write!(f, "{flags:04X}"),
-            Answer::Code(code) => write!(f, "{code:02X}"),
+            CallFault::Misuse => write!(f, "misuse"),
         }
     }
 }

@@ -17,6 +17,7 @@ pub enum Call {
     Code(u16),
     // these are not
     FittingOut(FittingOutCall),
+    Open,
     Service(ServiceCall),
 }
 
@@ -33,7 +34,6 @@ pub enum FittingOutCall {
     Port {
         id: u8,
     },
-    Open,
 }
 
 #[derive(Drop)]
@@ -75,12 +75,13 @@ pub fn read_line(heap: Global, line: &str) -> Result<Option<Call>, LineFault> {
 fn read_call(name: &str, fields: &mut Fields<'_>) -> Result<Call, LineFault> {
     match name {
         "register" => read_register(fields),
-        "rows" => Ok(Call::Rows(usize::from(fields.number(ROWS)?))),
-        "ports" => Ok(Call::Ports(usize::from(fields.number(PORTS)?))),
-        "reply" => Ok(Call::Reply(usize::from(fields.number(REPLY)?))),
+        "rows" => Ok(Call::Rows(usize::from(fields.number(ROWS as u16)?))),
+        "ports" => Ok(Call::Ports(usize::from(fields.number(PORTS as u16)?))),
+        "reply" => Ok(Call::Reply(usize::from(fields.number(REPLY as u16)?))),
         "gained" => read_gained(fields),
         "code" => Ok(Call::Code(fields.u16()?)),
-        "responder" | "controller" | "port" | "open" => Ok(Call::FittingOut(read_fitting_out(
+        "open" => Ok(Call::Open),
+        "responder" | "controller" | "port" => Ok(Call::FittingOut(read_fitting_out(
             name, fields,
         )?)),
         _ => Ok(Call::Service(read_service(name, fields)?)),
@@ -110,7 +111,6 @@ fn read_fitting_out(name: &str, fields: &mut Fields<'_>) -> Result<FittingOutCal
             first: fields.report()?,
         }),
         "port" => Ok(FittingOutCall::Port { id: fields.u8()? }),
-        "open" => Ok(FittingOutCall::Open),
         _ => Err(LineFault::UnknownCall),
     }
 }

@@ -1,9 +1,9 @@
-use crate::answer::Answer;
+use crate::answer::{CallFault, Grant};
 use crate::call::{Call, CarrierName, FittingOutCall, RequestCall, ServiceCall};
 use crate::memory::Memory;
 use health::Report;
 use health_rules::{changed_flags_gained, composite_temperature_code};
-use register::{InlineRegister, Register};
+use register::InlineRegister;
 use std::mem;
 use subsystem::{Fault, NotOpened, Subsystem, SubsystemBuilder};
 
@@ -31,87 +31,99 @@ impl Drive {
         }
     }
 
-    pub fn answer(&mut self, call: Call) -> Answer {
+    pub fn answer(&mut self, call: Call) -> Result<Grant<'_>, CallFault> {
         match call {
             Call::Register => {
                 self.phase = Phase::FittingOut(SubsystemBuilder::new());
                 self.register = InlineRegister::new();
-                self.memory.lend_by_default(4);
-                Answer::Granted
+                self.memory.lend_by_default();
+                Ok(Grant::Done)
             }
             Call::Rows(length) => {
-                self.memory.rows_lent = length;
-                Answer::Granted
+                self.memory.rows.lend(length);
+                Ok(Grant::Done)
             }
             Call::Ports(length) => {
-                self.memory.ports_lent = length;
-                Answer::Granted
+                self.memory.ports.lend(length);
+                Ok(Grant::Done)
             }
             Call::Reply(length) => {
-                self.memory.reply_lent = length;
-                Answer::Granted
+                self.memory.reply.lend(length);
+                Ok(Grant::Done)
             }
-            Call::Gained { old, new } => Answer::Flags(gained(old, new)),
-            Call::Code(kelvins) => Answer::Code(composite_temperature_code(kelvins)),
+            Call::Gained { old, new } => Ok(Grant::Flags(gained(old, new))),
+            Call::Code(kelvins) => Ok(Grant::Code(composite_temperature_code(kelvins))),
             Call::FittingOut(call) => self.fit_out(call),
+            Call::Open => self.open(),
             Call::Service(call) => self.serve(call),
         }
     }
 
-    // The reply to an answer that has one.
-    pub fn reply(&self, answer: Answer) -> &[u8] {
-        match answer {
-            Answer::Replied(length) => self.memory.reply(length),
-            _ => &[],
-        }
-    }
-
-    // The phase, by value. A new one stands for it until the call is done.
-    fn take_phase(&mut self) -> Phase {
-        mem::replace(&mut self.phase, Phase::FittingOut(SubsystemBuilder::new()))
-    }
-
-    fn fit_out(&mut self, call: FittingOutCall) -> Answer {
-        match self.take_phase() {
-            Phase::FittingOut(builder) => {
-                let (phase, answer) = fit_out(builder, &mut self.register, &mut self.memory, call);
-                self.phase = phase;
-                answer
+    fn fit_out(&mut self, call: FittingOutCall) -> Result<Grant<'_>, CallFault> {
+        let Phase::FittingOut(builder) = &mut self.phase else {
+            return Err(CallFault::Misuse);
+        };
+        match call {
+            FittingOutCall::Responder { kind } => Ok(Grant::Numbered(builder.add_responder(kind)?)),
+            FittingOutCall::Controller {
+                id,
+                function,
+                first,
+            } => {
+                builder.enroll(&mut self.register, id, function, first)?;
+                Ok(Grant::Done)
             }
-            Phase::Service(subsystem) => {
-                self.phase = Phase::Service(subsystem);
-                Answer::Misuse
+            FittingOutCall::Port { id } => {
+                builder.add_port(self.memory.ports.slice_mut(), id)?;
+                Ok(Grant::Done)
             }
         }
     }
 
-    fn serve(&mut self, call: ServiceCall) -> Answer {
-        match self.take_phase() {
-            Phase::Service(subsystem) => {
-                let mut subsystem = subsystem;
-                let answer = serve(&mut subsystem, &mut self.register, &mut self.memory, call);
+    // Where opening is refused the subsystem is still fitted out.
+    fn open(&mut self) -> Result<Grant<'_>, CallFault> {
+        let Phase::FittingOut(builder) = &mut self.phase else {
+            return Err(CallFault::Misuse);
+        };
+        let builder = mem::replace(builder, SubsystemBuilder::new());
+        match builder.open(&self.register, self.memory.rows.slice_mut()) {
+            Ok(subsystem) => {
                 self.phase = Phase::Service(subsystem);
-                answer
+                Ok(Grant::Done)
             }
-            Phase::FittingOut(builder) => {
+            Err(NotOpened { builder, fault }) => {
                 self.phase = Phase::FittingOut(builder);
-                Answer::Misuse
+                Err(CallFault::Refused(fault))
             }
         }
     }
-}
 
-fn granted(res: Result<(), Fault>) -> Answer {
-    match res {
-        Ok(()) => Answer::Granted,
-        Err(fault) => Answer::Refused(fault),
-    }
-}
-
-fn replied(res: Result<usize, Fault>) -> Answer {
-    match res {
-        Ok(length) => Answer::Replied(length),
-        Err(fault) => Answer::Refused(fault),
+    fn serve(&mut self, call: ServiceCall) -> Result<Grant<'_>, CallFault> {
+        let Drive {
+            phase,
+            register,
+            memory,
+        } = self;
+        let Phase::Service(subsystem) = phase else {
+            return Err(CallFault::Misuse);
+        };
+        match call {
+            ServiceCall::Report { id, report } => {
+                subsystem.report(register, memory.rows.slice_mut(), id, report)?
+            }
+            ServiceCall::Link { id, up } => {
+                subsystem.set_link(memory.ports.slice_mut(), id, up)?
+            }
+            ServiceCall::Status(status) => subsystem.set_status(status),
+            ServiceCall::Request(request) => {
+                let reply = serve_request(subsystem, register, memory, request)?;
+                return Ok(Grant::Replied(reply));
+            }
+            ServiceCall::Reset { responder } => {
+                subsystem.reset(register, memory.rows.slice_mut(), responder)?
+            }
+        }
+        Ok(Grant::Done)
     }
 }
 
@@ -131,89 +143,24 @@ fn gained(old: Report, new: Report) -> u16 {
     )
 }
 
-// A call of fitting out: the phase after it, and its answer.
-fn fit_out<R: Register>(
-    mut builder: SubsystemBuilder,
-    register: &mut R,
-    memory: &mut Memory,
-    call: FittingOutCall,
-) -> (Phase, Answer) {
-    let answer = match call {
-        FittingOutCall::Responder { kind } => match builder.add_responder(kind) {
-            Ok(number) => Answer::Numbered(number),
-            Err(fault) => Answer::Refused(fault),
-        },
-        FittingOutCall::Controller {
-            id,
-            function,
-            first,
-        } => { granted(builder.enroll(register, id, function, first)) }
-        FittingOutCall::Port { id } => granted(builder.add_port(memory.ports(), id)),
-        FittingOutCall::Open => return open(builder, register, memory),
-    };
-    (Phase::FittingOut(builder), answer)
-}
-
-// Where opening is refused the subsystem is still fitted out.
-fn open<R: Register>(
-    builder: SubsystemBuilder,
-    register: &R,
-    memory: &mut Memory,
-) -> (Phase, Answer) {
-    match builder.open(register, memory.rows()) {
-        Ok(subsystem) => (Phase::Service(subsystem), Answer::Granted),
-        Err(not_opened) => {
-            let NotOpened { builder, fault } = not_opened;
-            (Phase::FittingOut(builder), Answer::Refused(fault))
-        }
-    }
-}
-
-// A call of service.
-fn serve<R: Register>(
+// The bytes of the reply to a request.
+fn serve_request<'a>(
     subsystem: &mut Subsystem,
-    register: &mut R,
-    memory: &mut Memory,
-    call: ServiceCall,
-) -> Answer {
-    match call {
-        ServiceCall::Report { id, report } => {
-            granted(subsystem.report(register, memory.rows(), id, report))
-        }
-        ServiceCall::Link { id, up } => granted(subsystem.set_link(memory.ports(), id, up)),
-        ServiceCall::Status(status) => {
-            subsystem.set_status(status);
-            Answer::Granted
-        }
-        ServiceCall::Request(request) => replied(serve_request(
-            subsystem, register, memory, request,
-        )),
-        ServiceCall::Reset { responder } => {
-            granted(subsystem.reset(register, memory.rows(), responder))
-        }
-    }
-}
-
-fn serve_request<R: Register>(
-    subsystem: &mut Subsystem,
-    register: &R,
-    memory: &mut Memory,
+    register: &InlineRegister,
+    memory: &'a mut Memory,
     request: RequestCall,
-) -> Result<usize, Fault> {
+) -> Result<&'a [u8], Fault> {
     let RequestCall {
         responder,
         carrier,
         bytes,
     } = request;
     match carrier {
-        CarrierName::Endpoint => memory.serve::<wire::Endpoint, R>(
-            subsystem,
-            register,
-            responder,
-            bytes.as_slice(),
-        ),
+        CarrierName::Endpoint => {
+            memory.serve::<wire::Endpoint>(subsystem, register, responder, bytes.as_slice())
+        }
         CarrierName::Tunnel => {
-            memory.serve::<wire::Tunnel, R>(subsystem, register, responder, bytes.as_slice())
+            memory.serve::<wire::Tunnel>(subsystem, register, responder, bytes.as_slice())
         }
     }
 }

@@ -1,8 +1,10 @@
 use console::HexFault;
+use std::error::Error;
 use std::fmt;
+use std::num::TryFromIntError;
 
 // Why a line is no call.
-#[derive(Clone, Copy)]
+#[derive(Clone, Copy, Debug, PartialEq, Eq)]
 pub enum LineFault {
     UnknownCall,
     MissingField,
@@ -17,9 +19,17 @@ pub enum LineFault {
     Hex(HexFault),
 }
 
+impl Error for LineFault {}
+
 impl From<HexFault> for LineFault {
     fn from(fault: HexFault) -> LineFault {
         LineFault::Hex(fault)
+    }
+}
+
+impl From<TryFromIntError> for LineFault {
+    fn from(_e: TryFromIntError) -> LineFault {
+        LineFault::NotANumber
     }
 }
 

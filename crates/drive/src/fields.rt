@@ -25,10 +25,7 @@ impl<'a> Fields<'a> {
     }
 
     pub fn word(&mut self) -> Result<&'a str, LineFault> {
-        match self.words.next() {
-            Some(word) => Ok(word),
-            None => Err(LineFault::MissingField),
-        }
+        self.words.next().ok_or(LineFault::MissingField)
     }
 
     // The line has no more fields.
@@ -40,10 +37,7 @@ impl<'a> Fields<'a> {
     }
 
     pub fn number(&mut self, most: u16) -> Result<u16, LineFault> {
-        match read_decimal(self.word()?.as_bytes(), most) {
-            Some(number) => Ok(number),
-            None => Err(LineFault::NotANumber),
-        }
+        read_decimal(self.word()?.as_bytes(), most).ok_or(LineFault::NotANumber)
     }
 
     pub fn u16(&mut self) -> Result<u16, LineFault> {
@@ -51,13 +45,10 @@ impl<'a> Fields<'a> {
     }
 
     pub fn u8(&mut self) -> Result<u8, LineFault> {
-        match u8::try_from(self.number(0xff)?) {
-            Ok(number) => Ok(number),
-            Err(_) => Err(LineFault::NotANumber),
-        }
+        Ok(u8::try_from(self.number(0xff)?)?)
     }
 
-    // 0 or 1.
+    // 0 or 1. This and `link` have a match each: one function of both words and of the fault is no shorter.
     pub fn flag(&mut self) -> Result<bool, LineFault> {
         match self.word()? {
             "0" => Ok(false),
@@ -80,10 +71,10 @@ impl<'a> Fields<'a> {
         Ok(read_hex(self.heap, text.as_bytes())?)
     }
 
-    // Bytes as hex digits, or this fault.
-    fn hex(&mut self, otherwise: LineFault) -> Result<Vec<u8>, LineFault> {
+    // This many bytes as hex digits, or this fault.
+    fn hex<const N: usize>(&mut self, otherwise: LineFault) -> Result<[u8; N], LineFault> {
         match read_hex(self.heap, self.word()?.as_bytes()) {
-            Ok(bytes) => Ok(bytes),
+            Ok(bytes) => <[u8; N]>::try_from(bytes.as_slice()).map_err(|_| otherwise),
             Err(HexFault::NotHexPairs) => Err(otherwise),
             Err(HexFault::OutOfMemory) => Err(LineFault::Hex(HexFault::OutOfMemory)),
         }
@@ -91,18 +82,12 @@ impl<'a> Fields<'a> {
 
     // A Controller Status word: four hex digits.
     fn status(&mut self) -> Result<u16, LineFault> {
-        match self.hex(LineFault::NotAStatus)?.as_slice() {
-            [high, low] => Ok(u16::from_be_bytes([*high, *low])),
-            _ => Err(LineFault::NotAStatus),
-        }
+        Ok(u16::from_be_bytes(self.hex(LineFault::NotAStatus)?))
     }
 
     // A critical warning: two hex digits.
     fn warning(&mut self) -> Result<u8, LineFault> {
-        match self.hex(LineFault::NotAWarning)?.as_slice() {
-            [warning] => Ok(*warning),
-            _ => Err(LineFault::NotAWarning),
-        }
+        Ok(u8::from_be_bytes(self.hex(LineFault::NotAWarning)?))
     }
 
     // STATUS TEMP USED SPARE WARNING

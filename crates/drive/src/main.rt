@@ -10,8 +10,7 @@ mod fault;
 mod fields;
 mod memory;
 
-use answer::AnswerText;
-use anyhow::anyhow;
+use anyhow::ensure;
 use call::read_line;
 use drive_state::Drive;
 use std::{env, io};
@@ -20,14 +19,10 @@ use std::{env, io};
 fn answer_line(rt: &HostRuntime, drive: &mut Drive, line: &str) -> io::Result<()> {
     match read_line(rt.alloc(), line) {
         Ok(None) => Ok(()),
-        Ok(Some(call)) => {
-            let answer = drive.answer(call);
-            let text = AnswerText {
-                answer,
-                reply: drive.reply(answer),
-            };
-            println!(rt; "{text}")
-        }
+        Ok(Some(call)) => match drive.answer(call) {
+            Ok(grant) => println!(rt; "{grant}"),
+            Err(fault) => println!(rt; "{fault}"),
+        },
         Err(fault) => println!(rt; "error {fault}"),
     }
 }
@@ -35,9 +30,10 @@ fn answer_line(rt: &HostRuntime, drive: &mut Drive, line: &str) -> io::Result<()
 // There is one argument at most: `-`, for standard input.
 fn check_arguments(rt: &HostRuntime) -> anyhow::Result<()> {
     for argument in env::args(rt)?.skip(1) {
-        if argument.as_str() != "-" {
-            return Err(anyhow!("the only argument is -, for standard input"));
-        }
+        ensure!(
+            argument.as_str() == "-",
+            "the only argument is -, for standard input"
+        );
     }
     Ok(())
 }

@@ -1,89 +1,93 @@
+ghost use Rattle.std.specs.Prelude.{◌≤◌};
+
 use health::Row;
-use register::{Port, Register};
+use register::{InlineRegister, Port};
 use subsystem::{Fault, Subsystem};
 use wire::Carrier;
 
 // How much memory there is.
-pub const ROWS: u16 = 64;
+pub const ROWS: usize = 64;
 
-pub const PORTS: u16 = 16;
+pub const PORTS: usize = 16;
 
-pub const REPLY: u16 = 4176;
+pub const REPLY: usize = 4176;
 
-// The memory that is lent to the calls, and how much of it.
+// Memory, of which the beginning is lent. The rest keeps what it holds.
+#[derive(Drop)]
+pub struct Lent<T, const N: usize> {
+    memory: [T; N],
+    lent: usize,
+    ghost no_more_than_all: { lent ≤ N },
+}
+
+impl<T, const N: usize> Lent<T, N> {
+    // Lends the beginning of this length from here on, or all where there is less.
+    pub fn lend(&mut self, length: usize) {
+        self.lent = length.min(N);
+    }
+
+    pub fn slice_mut(&mut self) -> &mut [T] {
+        let length = self.lent;
+        let memory = &mut self.memory;
+        &mut memory[..length]
+    }
+}
+
+// The memory that is lent to the calls.
 #[derive(Drop)]
 pub struct Memory {
-    rows: [Row; 64],
-    ports: [Port; 16],
-    reply: [u8; 4176],
-    pub rows_lent: usize,
-    pub ports_lent: usize,
-    pub reply_lent: usize,
+    pub rows: Lent<Row, ROWS>,
+    pub ports: Lent<Port, PORTS>,
+    pub reply: Lent<u8, REPLY>,
 }
 
 impl Memory {
     pub fn new() -> Memory {
-        Memory {
-            rows: [Row::clear(); 64],
-            ports: [Port {
-                id: 0,
-                link_up: false,
-            }; 16],
-            reply: [0; 4176],
-            rows_lent: 32,
-            ports_lent: 8,
-            reply_lent: 4168,
-        }
+        let port = Port {
+            id: 0,
+            link_up: false,
+        };
+        let mut memory = Memory {
+            rows: Lent {
+                memory: [Row::clear(); ROWS],
+                lent: 0,
+            },
+            ports: Lent {
+                memory: [port; PORTS],
+                lent: 0,
+            },
+            reply: Lent {
+                memory: [0; REPLY],
+                lent: 0,
+            },
+        };
+        memory.lend_by_default();
+        memory
     }
 
-    // For a register of this capacity, with eight Responders.
-    pub fn lend_by_default(&mut self, capacity: usize) {
-        self.rows_lent = capacity.saturating_mul(8);
-        self.ports_lent = 8;
-        self.reply_lent = 4168;
+    // As at the start.
+    pub fn lend_by_default(&mut self) {
+        self.rows.lend(32);
+        self.ports.lend(8);
+        self.reply.lend(4168);
     }
 
-    pub fn rows(&mut self) -> &mut [Row] {
-        let length = self.rows_lent;
-        beginning(&mut self.rows, length)
-    }
-
-    pub fn ports(&mut self) -> &mut [Port] {
-        let length = self.ports_lent;
-        beginning(&mut self.ports, length)
-    }
-
-    // The first bytes of the reply space.
-    pub fn reply(&self, length: usize) -> &[u8] {
-        self.reply.get(0..length).unwrap_or(&[])
-    }
-
-    // A request, with all that is lent: the length of its reply.
-    pub fn serve<C: Carrier, R: Register>(
+    // Serves a request with all that is lent: the bytes of its reply.
+    pub fn serve<C: Carrier>(
         &mut self,
         subsystem: &mut Subsystem,
-        register: &R,
+        register: &InlineRegister,
         responder: u8,
         request: &[u8],
-    ) -> Result<usize, Fault> {
-        let rows_lent = self.rows_lent;
-        let ports_lent = self.ports_lent;
-        let reply_lent = self.reply_lent;
-        subsystem.serve::<C, R>(
+    ) -> Result<&[u8], Fault> {
+        let length = subsystem.serve::<C, InlineRegister>(
             responder,
             register,
-            beginning(&mut self.rows, rows_lent),
-            beginning(&mut self.ports, ports_lent),
+            self.rows.slice_mut(),
+            self.ports.slice_mut(),
             request,
-            beginning(&mut self.reply, reply_lent),
-        )
+            self.reply.slice_mut(),
+        )?;
+        Ok(self.reply.memory.get(..length).unwrap_or(&[]))
     }
-}
-
-// The beginning of this length, or all where there is less.
-fn beginning<T>(memory: &mut [T], length: usize) -> &mut [T] {
-    if length > memory.len() {
-        return memory;
-    }
-    &mut memory[0..length]
 }

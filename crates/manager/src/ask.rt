@@ -1,79 +1,23 @@
 use crate::fault::LineFault;
-use commands::{ControllerHealthPoll, HealthCommand, Selection};
-use console::{HexBytes, RefusalText};
+use commands::{ControllerHealthPoll, HealthCommand};
 use health::ChangedFlags;
-use std::io;
 use std::str::SplitWhitespace;
-use wire::Carrier;
 
 // A request to write: its tag and its command.
 #[derive(Clone, Copy)]
-struct Asked {
-    tag: bool,
-    command: HealthCommand,
+pub struct Asked {
+    pub tag: bool,
+    pub command: HealthCommand,
 }
 
-const NOTHING_SELECTED: Selection = Selection {
-    cwarn: false,
-    spare: false,
-    pdlu: false,
-    ctemp: false,
-    csts: false,
-};
-
-const EMPTY_POLL: ControllerHealthPoll = ControllerHealthPoll {
-    report_all: false,
-    incvf: false,
-    incpf: false,
-    incf: false,
-    maxrent: 0,
-    sctlid: 0,
-    clear_changed_flags: false,
-    selection: NOTHING_SELECTED,
-};
-
-// `endpoint|tunnel COMMAND NAME=VALUE ..`: prints the bytes of the request. A value that is not named is 0.
-pub fn ask(rt: &HostRuntime, mut words: SplitWhitespace<'_>) -> Result<(), LineFault> {
-    let carrier = words.next();
-    let command = words.next();
-    match carrier {
-        Some("endpoint") => show_bytes::<wire::Endpoint>(rt, read_asked(command, words)?)?,
-        Some("tunnel") => show_bytes::<wire::Tunnel>(rt, read_asked(command, words)?)?,
-        _ => return Err(LineFault::UnknownCarrier),
-    }
-    Ok(())
-}
-
-fn show_bytes<C: Carrier>(rt: &HostRuntime, asked: Asked) -> io::Result<()> {
-    let mut space = [0u8; 128];
-    match C::write_request(asked.tag, asked.command.command(), &mut space) {
-        Ok(length) => {
-            let bytes = HexBytes {
-                bytes: space.get(0..length).unwrap_or(&[]),
-            };
-            println!(rt; "{bytes}")
-        }
-        Err(fault) => {
-            let text = RefusalText { fault };
-            println!(rt; "{text}")
-        }
-    }
-}
-
-fn read_asked(command: Option<&str>, words: SplitWhitespace<'_>) -> Result<Asked, LineFault> {
-    match command {
+// `COMMAND NAME=VALUE ..`. A value that is not named is 0.
+pub fn read_asked(mut words: SplitWhitespace<'_>) -> Result<Asked, LineFault> {
+    match words.next() {
         Some("subsystem-health-status-poll") => read_subsystem_poll(words),
         Some("controller-health-status-poll") => read_controller_poll(words),
         Some("configuration-set") => read_configuration_set(words),
         Some("configuration-get") => read_configuration_get(words),
         _ => Err(LineFault::UnknownCommand),
-    }
-}
-
-fn named(word: &str) -> Result<(&str, &str), LineFault> {
-    match word.split_once('=') {
-        Some(named) => Ok(named),
-        None => Err(LineFault::UnknownName),
     }
 }
 
@@ -85,17 +29,33 @@ fn read_bit(value: &str) -> Result<bool, LineFault> {
     }
 }
 
-fn read_subsystem_poll(words: SplitWhitespace<'_>) -> Result<Asked, LineFault> {
+// Reads `NAME=VALUE ..`, and answers the tag. `set` sets the values that the command has beside it.
+fn read_values<F: FnMut(&str, &str) -> Result<(), LineFault>>(
+    words: SplitWhitespace<'_>,
+    mut set: F,
+) -> Result<bool, LineFault>
+    requires { F.IsAlwaysCallable set }
+{
     let mut tag = false;
-    let mut clear_status = false;
     for word in words {
-        let (name, value) = named(word)?;
+        let (name, value) = word.split_once('=').ok_or(LineFault::UnknownName)?;
         match name {
             "tag" => tag = read_bit(value)?,
+            _ => set(name, value)?,
+        }
+    }
+    Ok(tag)
+}
+
+fn read_subsystem_poll(words: SplitWhitespace<'_>) -> Result<Asked, LineFault> {
+    let mut clear_status = false;
+    let tag = read_values(words, |name, value| {
+        match name {
             "clear" => clear_status = read_bit(value)?,
             _ => return Err(LineFault::UnknownName),
         }
-    }
+        Ok(())
+    })?;
     Ok(Asked {
         tag,
         command: HealthCommand::SubsystemHealthStatusPoll { clear_status },
@@ -103,27 +63,21 @@ fn read_subsystem_poll(words: SplitWhitespace<'_>) -> Result<Asked, LineFault> {
 }
 
 fn read_controller_poll(words: SplitWhitespace<'_>) -> Result<Asked, LineFault> {
-    let mut tag = false;
-    let mut poll = EMPTY_POLL;
-    for word in words {
-        let (name, value) = named(word)?;
-        match name {
-            "tag" => tag = read_bit(value)?,
-            "maxrent" => match value.parse::<u8>() {
-                Ok(maxrent) => poll.maxrent = maxrent,
-                Err(_) => return Err(LineFault::NotAValue),
-            },
-            "sctlid" => match value.parse::<u16>() {
-                Ok(sctlid) => poll.sctlid = sctlid,
-                Err(_) => return Err(LineFault::NotAValue),
-            },
-            _ => set_poll_bit(&mut poll, name, read_bit(value)?)?,
-        }
-    }
+    let mut poll = ControllerHealthPoll::default();
+    let tag = read_values(words, |name, value| set_in_poll(&mut poll, name, value))?;
     Ok(Asked {
         tag,
         command: HealthCommand::ControllerHealthStatusPoll(poll),
     })
+}
+
+fn set_in_poll(poll: &mut ControllerHealthPoll, name: &str, value: &str) -> Result<(), LineFault> {
+    match name {
+        "maxrent" => poll.maxrent = value.parse::<u8>()?,
+        "sctlid" => poll.sctlid = value.parse::<u16>()?,
+        _ => set_poll_bit(poll, name, read_bit(value)?)?,
+    }
+    Ok(())
 }
 
 fn set_poll_bit(poll: &mut ControllerHealthPoll, name: &str, set: bool) -> Result<(), LineFault> {
@@ -144,19 +98,14 @@ fn set_poll_bit(poll: &mut ControllerHealthPoll, name: &str, set: bool) -> Resul
 }
 
 fn read_configuration_set(words: SplitWhitespace<'_>) -> Result<Asked, LineFault> {
-    let mut tag = false;
     let mut clear = ChangedFlags::none();
-    for word in words {
-        let (name, value) = named(word)?;
+    let tag = read_values(words, |name, value| {
         match name {
-            "tag" => tag = read_bit(value)?,
-            "flags" => match u16::from_str_radix(value, 16) {
-                Ok(bits) => clear = ChangedFlags::from_bits(bits),
-                Err(_) => return Err(LineFault::NotAValue),
-            },
+            "flags" => clear = ChangedFlags::from_bits(u16::from_str_radix(value, 16)?),
             _ => return Err(LineFault::UnknownName),
         }
-    }
+        Ok(())
+    })?;
     Ok(Asked {
         tag,
         command: HealthCommand::ConfigurationSet { clear },
@@ -164,14 +113,7 @@ fn read_configuration_set(words: SplitWhitespace<'_>) -> Result<Asked, LineFault
 }
 
 fn read_configuration_get(words: SplitWhitespace<'_>) -> Result<Asked, LineFault> {
-    let mut tag = false;
-    for word in words {
-        let (name, value) = named(word)?;
-        match name {
-            "tag" => tag = read_bit(value)?,
-            _ => return Err(LineFault::UnknownName),
-        }
-    }
+    let tag = read_values(words, |_, _| Err(LineFault::UnknownName))?;
     Ok(Asked {
         tag,
         command: HealthCommand::ConfigurationGet,

@@ -1,77 +1,64 @@
-use crate::fault::LineFault;
+use crate::ask::Asked;
+use crate::line::{CarrierName, Line, Message};
 use commands::HealthCommand;
-use console::{RefusalText, ReplyText, RequestText, read_hex};
-use std::alloc::Global;
-use std::io;
-use std::str::SplitWhitespace;
-use wire::{Carrier, read_reply};
+use console::{HexBytes, RefusalText, ReplyText, RequestText};
+use std::{fmt, io};
+use wire::{Carrier, Endpoint, Tunnel, WireFault, read_reply};
 
 // The health command that was last captured over each carrier.
-#[derive(Drop)]
+#[derive(Default, Drop)]
 pub struct Capture {
-    pub endpoint: Option<HealthCommand>,
-    pub tunnel: Option<HealthCommand>,
+    endpoint: Option<HealthCommand>,
+    tunnel: Option<HealthCommand>,
 }
 
-fn read_bytes(heap: Global, words: SplitWhitespace<'_>) -> Result<Vec<u8>, LineFault> {
-    let mut bytes = Vec::new(heap);
-    for word in words {
-        let part = read_hex(heap, word.as_bytes())?;
-        bytes.extend_from_slice(part.as_slice())?;
+impl Capture {
+    // Prints what a line says, or the bytes that it asks for.
+    pub fn show(&mut self, rt: &HostRuntime, line: Line) -> io::Result<()> {
+        let Line { carrier, message } = line;
+        match carrier {
+            CarrierName::Endpoint => show_message::<Endpoint>(rt, &mut self.endpoint, message),
+            CarrierName::Tunnel => show_message::<Tunnel>(rt, &mut self.tunnel, message),
+        }
     }
-    Ok(bytes)
 }
 
-// `request HEX` or `reply HEX`. A reply is read in the light of the request before it.
-pub fn captured<C: Carrier>(
+// A reply is read in the light of the request before it.
+fn show_message<C: Carrier>(
     rt: &HostRuntime,
     asked: &mut Option<HealthCommand>,
-    mut words: SplitWhitespace<'_>,
-) -> Result<(), LineFault> {
-    match words.next() {
-        Some("request") => {
-            let bytes = read_bytes(rt.alloc(), words)?;
-            *asked = None;
-            show_request::<C>(rt, asked, bytes.as_slice())?;
-            Ok(())
-        }
-        Some("reply") => {
-            let bytes = read_bytes(rt.alloc(), words)?;
-            show_reply::<C>(rt, *asked, bytes.as_slice())?;
-            Ok(())
-        }
-        _ => Err(LineFault::UnknownMessage),
-    }
-}
-
-fn show_request<C: Carrier>(
-    rt: &HostRuntime,
-    asked: &mut Option<HealthCommand>,
-    bytes: &[u8],
+    message: Message,
 ) -> io::Result<()> {
-    match C::read_request(bytes) {
-        Ok(request) => {
-            *asked = HealthCommand::read(request.command).ok();
-            let text = RequestText { request };
-            println!(rt; "{text}")
+    match message {
+        Message::Request(bytes) => {
+            let request = C::read_request(bytes.as_slice());
+            *asked = request
+                .ok()
+                .and_then(|request| HealthCommand::read(request.command).ok());
+            show(rt, request.map(|request| RequestText { request }))
         }
-        Err(fault) => {
-            let text = RefusalText { fault };
-            println!(rt; "{text}")
+        Message::Reply(bytes) => {
+            let asked = *asked;
+            let reply = read_reply::<C>(bytes.as_slice());
+            show(rt, reply.map(|reply| ReplyText { reply, asked }))
+        }
+        Message::Ask(Asked { tag, command }) => {
+            let mut space = [0u8; 128];
+            let written = C::write_request(tag, command.command(), &mut space);
+            show(
+                rt,
+                written.map(|length| HexBytes {
+                    bytes: &space[..length],
+                }),
+            )
         }
     }
 }
 
-fn show_reply<C: Carrier>(
-    rt: &HostRuntime,
-    asked: Option<HealthCommand>,
-    bytes: &[u8],
-) -> io::Result<()> {
-    match read_reply::<C>(bytes) {
-        Ok(reply) => {
-            let text = ReplyText { reply, asked };
-            println!(rt; "{text}")
-        }
+// Prints what was made or read, or why it was refused.
+fn show<T: fmt::Display + Drop>(rt: &HostRuntime, made: Result<T, WireFault>) -> io::Result<()> {
+    match made {
+        Ok(text) => println!(rt; "{text}"),
         Err(fault) => {
             let text = RefusalText { fault };
             println!(rt; "{text}")

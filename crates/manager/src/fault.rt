@@ -1,9 +1,11 @@
 use console::HexFault;
 use std::alloc::AllocError;
-use std::{fmt, io};
+use std::error::Error;
+use std::fmt;
+use std::num::ParseIntError;
 
 // Why a line is no captured message and no request to write.
-#[derive(Clone, Copy)]
+#[derive(Clone, Copy, Debug, PartialEq, Eq)]
 pub enum LineFault {
     UnknownLine,
     UnknownCarrier,
@@ -13,8 +15,9 @@ pub enum LineFault {
     NotAValue,
     Hex(HexFault),
     OutOfMemory,
-    NotPrinted,
 }
+
+impl Error for LineFault {}
 
 impl From<HexFault> for LineFault {
     fn from(fault: HexFault) -> LineFault {
@@ -28,9 +31,9 @@ impl From<AllocError> for LineFault {
     }
 }
 
-impl From<io::Error> for LineFault {
-    fn from(_e: io::Error) -> LineFault {
-        LineFault::NotPrinted
+impl From<ParseIntError> for LineFault {
+    fn from(_e: ParseIntError) -> LineFault {
+        LineFault::NotAValue
     }
 }
 
@@ -45,7 +48,6 @@ impl fmt::Display for LineFault {
             LineFault::NotAValue => write!(f, "a value is out of its range"),
             LineFault::Hex(fault) => write!(f, "{fault}"),
             LineFault::OutOfMemory => write!(f, "out of memory"),
-            LineFault::NotPrinted => write!(f, "not printed"),
         }
     }
 }

@@ -7,12 +7,11 @@
 mod ask;
 mod capture;
 mod fault;
+mod line;
 
 use anyhow::anyhow;
-use ask::ask;
-use capture::{Capture, captured};
-use fault::LineFault;
-use wire::{Endpoint, Tunnel};
+use capture::Capture;
+use line::read_line;
 
 // A manager asks an endpoint for the health of all controllers, and gets one entry.
 const EXAMPLE: [&str; 3] = [
@@ -31,24 +30,16 @@ fn handle(rt: &HostRuntime, capture: &mut Capture, line: &str) -> anyhow::Result
         return Ok(());
     }
     println!(rt; "> {line}")?;
-    let done = match first {
-        "endpoint" => captured::<Endpoint>(rt, &mut capture.endpoint, words),
-        "tunnel" => captured::<Tunnel>(rt, &mut capture.tunnel, words),
-        "ask" => ask(rt, words),
-        _ => Err(LineFault::UnknownLine),
-    };
-    match done {
-        Ok(()) => Ok(()),
-        Err(LineFault::NotPrinted) => Err(anyhow!("standard output is closed")),
+    match read_line(rt.alloc(), first, words) {
+        Ok(line) => capture
+            .show(rt, line)
+            .map_err(|_| anyhow!("standard output is closed")),
         Err(fault) => Ok(println!(rt; "error: {fault}")?),
     }
 }
 
 fn run(rt: &HostRuntime) -> anyhow::Result<()> {
-    let mut capture = Capture {
-        endpoint: None,
-        tunnel: None,
-    };
+    let mut capture = Capture::default();
     let mut empty = true;
     for line in rt.lines(rt.alloc()) {
         let line = line?;

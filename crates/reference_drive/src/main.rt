@@ -8,27 +8,17 @@ mod power;
 
 use anyhow::anyhow;
 use fault::RunFault;
-use health::Row;
-use poll::poll;
-use power::{fit_out, power_on};
-use register::{InlineRegister, Port};
+use power::PoweredDrive;
+use wire::{Endpoint, Tunnel};
 
 fn poll_from_each(rt: &HostRuntime) -> Result<(), RunFault> {
-    let mut register = InlineRegister::new();
-    let mut rows = [Row::clear(); 3];
-    let mut ports = [Port {
-        id: 0,
-        link_up: false,
-    }; 2];
-    let builder = fit_out(&mut register, &mut ports)?;
-    let mut subsystem = power_on(builder, &mut register, &mut rows, &mut ports)?;
+    let mut drive = PoweredDrive::power_on()?;
     println!(rt; "Responder 0, a Management Endpoint")?;
-    poll::<wire::Endpoint>(rt, &mut subsystem, 0, &register, &mut rows, &ports)?;
+    drive.poll::<Endpoint>(rt, 0)?;
     println!(rt; "Responder 1, a Management Endpoint")?;
-    poll::<wire::Endpoint>(rt, &mut subsystem, 1, &register, &mut rows, &ports)?;
+    drive.poll::<Endpoint>(rt, 1)?;
     println!(rt; "Responder 2, the tunnel")?;
-    poll::<wire::Tunnel>(rt, &mut subsystem, 2, &register, &mut rows, &ports)?;
-    Ok(())
+    drive.poll::<Tunnel>(rt, 2)
 }
 
 fn run(rt: &HostRuntime) -> anyhow::Result<()> {

@@ -1,9 +1,15 @@
-use Rattle.std.proofs.Common.{vec_items, sym, ◌∙◌}
-use Rattle.console.proofs.Pairs.{pair_read}
+use Rattle.std.proofs.Common.{◌/◌, length, vec_items, arith}
+use Rattle.std.proofs.lemmas.Grind.{common_steps}
+use Rattle.console.proofs.Pairs.{pushed, pair_at}
 use Rattle.console.proofs.hex.read_hex.Goals as goal
 
-pub loop-rest-preserved : goal.loop-rest-preserved
-loop-rest-preserved c =
-    pair_read (vec_items c.loop-rest.bytes) (vec_items c.push.new.self) c.loop-rest.rest.now c.in-Some.high c.in-Some-digit.low
-    (sym c.in-Some.ensures) (sym c.in-Some-digit.ensures) c.in_ok-push.ensures.items
-    ∙ c.loop-rest.invariant
+pub returns-in_default : goal.returns-in_default
+returns-in_default c =
+    let turn = pair_at (length c.args.text.now / 2) c.args.text.now c.loop-high.high-index (omega arith) (omega arith) in
+    grind (arith, common_steps)
+
+pub loop-high-preserved : goal.loop-high-preserved
+loop-high-preserved c =
+    let turn = pair_at (length c.args.text.now / 2) c.args.text.now c.loop-high.high-index (omega arith) (omega arith) in
+    let push = pushed (vec_items c.loop-high.bytes) c.in-Some-Some.high c.in-Some-Some.low in
+    grind (arith, common_steps)
