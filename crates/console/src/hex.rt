@@ -3,8 +3,8 @@ ghost use Rattle.console.specs.Hex.{hex_digit, Reads};
 ghost use Rattle.console.specs.declared.hex.HexFault.TheVariants.{OutOfMemory};
 
 use std::alloc::{AllocError, AllocFailed, Global};
-use std::error::Error;
 use std::fmt;
+use thiserror::Error;
 
 // Bytes as pairs of hex digits.
 #[derive(Clone, Copy)]
@@ -22,13 +22,13 @@ impl fmt::Display for HexBytes<'_> {
 }
 
 // Why a text holds no bytes.
-#[derive(Clone, Copy, Debug, PartialEq, Eq)]
+#[derive(Clone, Copy, Debug, PartialEq, Eq, Error)]
 pub enum HexFault {
+    #[error("bytes are pairs of hex digits")]
     NotHexPairs,
+    #[error("out of memory")]
     OutOfMemory,
 }
-
-impl Error for HexFault {}
 
 impl From<AllocError> for HexFault {
     ghost from_gives = { λ _ r. r ≡ OutOfMemory };
@@ -43,15 +43,6 @@ impl<T: Drop> From<AllocFailed<T>> for HexFault {
 
     fn from(_e: AllocFailed<T>) -> HexFault {
         HexFault::OutOfMemory
-    }
-}
-
-impl fmt::Display for HexFault {
-    fn fmt<W: fmt::Write>(&self, f: &mut fmt::Formatter<W>) -> fmt::Result {
-        f.write_str(match self {
-            HexFault::NotHexPairs => "bytes are pairs of hex digits",
-            HexFault::OutOfMemory => "out of memory",
-        })
     }
 }
 

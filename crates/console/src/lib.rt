@@ -9,6 +9,6 @@ mod request;
 
 pub use hex::{HexBytes, HexFault, read_hex};
 pub use number::read_decimal;
-pub use refusal::RefusalText;
+pub use refusal::{RefusalNumbers, RefusalText};
 pub use reply::ReplyText;
 pub use request::RequestText;

@@ -15,7 +15,7 @@ impl fmt::Display for ReplyText<'_> {
     fn fmt<W: fmt::Write>(&self, f: &mut fmt::Formatter<W>) -> fmt::Result {
         let head = self.reply.head;
         let nmresp = head.nmresp;
-        let status = ResponseStatus::from_head(head);
+        let status = ResponseStatus::from(head);
         write!(f, "reply: status {status}, NMRESP {nmresp:06X}h")?;
         match (status, self.asked) {
             (ResponseStatus::Success, Some(HealthCommand::ControllerHealthStatusPoll(_))) => {

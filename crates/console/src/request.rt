@@ -1,6 +1,6 @@
 use commands::{ControllerHealthPoll, HealthCommand, ResponseStatus};
 use std::fmt;
-use wire::{Command, Request};
+use wire::{Command, Head, Request};
 
 // A request in print, a line for each of its parts.
 #[derive(Clone, Copy)]
@@ -24,10 +24,10 @@ impl fmt::Display for RequestText {
             f,
             "  opcode {opcode:02X}h, NMD0 {nmd0:08X}h, NMD1 {nmd1:08X}h"
         )?;
-        match HealthCommand::read(command) {
+        match HealthCommand::try_from(command) {
             Ok(asked) => write_command(asked, f),
             Err(reply) => {
-                let status = ResponseStatus::from_head(reply.head());
+                let status = ResponseStatus::from(Head::from(reply));
                 write!(f, "  no health command: its error reply is {status}")
             }
         }

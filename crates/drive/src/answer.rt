@@ -1,4 +1,5 @@
-use console::HexBytes;
+use console::{HexBytes, RefusalNumbers};
+use health::ChangedFlags;
 use std::fmt;
 use subsystem::Fault;
 
@@ -10,7 +11,8 @@ pub enum Grant<'a> {
     Numbered(u8),
     // the bytes of the reply
     Replied(&'a [u8]),
-    Flags(u16),
+    // the flags that a report gains, none where it is malformed
+    Gained(Option<ChangedFlags>),
     Code(u8),
 }
 
@@ -23,7 +25,10 @@ impl fmt::Display for Grant<'_> {
                 let reply = HexBytes { bytes };
                 write!(f, "granted {reply}")
             }
-            Grant::Flags(flags) => write!(f, "{flags:04X}"),
+            Grant::Gained(flags) => {
+                let bits = flags.map_or(0xffff, |flags| flags.bits());
+                write!(f, "{bits:04X}")
+            }
             Grant::Code(code) => write!(f, "{code:02X}"),
         }
     }
@@ -47,10 +52,8 @@ impl fmt::Display for CallFault {
     fn fmt<W: fmt::Write>(&self, f: &mut fmt::Formatter<W>) -> fmt::Result {
         match self {
             CallFault::Refused(fault) => {
-                let number = fault.number();
-                let layer = fault.layer();
-                let place = fault.place();
-                write!(f, "refused {number} layer {layer} place {place}")
+                let refused = RefusalNumbers { fault: *fault };
+                write!(f, "{refused}")
             }
             CallFault::Misuse => write!(f, "misuse"),
         }

@@ -1,8 +1,7 @@
 use crate::answer::{CallFault, Grant};
 use crate::call::{Call, CarrierName, FittingOutCall, RequestCall, ServiceCall};
 use crate::memory::Memory;
-use health::Report;
-use health_rules::{changed_flags_gained, composite_temperature_code};
+use health_rules::{changed_flags_gained, temperature_code};
 use register::InlineRegister;
 use std::mem;
 use subsystem::{Fault, NotOpened, Subsystem, SubsystemBuilder};
@@ -51,8 +50,8 @@ impl Drive {
                 self.memory.reply.lend(length);
                 Ok(Grant::Done)
             }
-            Call::Gained { old, new } => Ok(Grant::Flags(gained(old, new))),
-            Call::Code(kelvins) => Ok(Grant::Code(composite_temperature_code(kelvins))),
+            Call::Gained { old, new } => Ok(Grant::Gained(changed_flags_gained(old, new))),
+            Call::Code(kelvins) => Ok(Grant::Code(temperature_code(kelvins))),
             Call::FittingOut(call) => self.fit_out(call),
             Call::Open => self.open(),
             Call::Service(call) => self.serve(call),
@@ -125,22 +124,6 @@ impl Drive {
         }
         Ok(Grant::Done)
     }
-}
-
-// The flag rule on plain numbers.
-fn gained(old: Report, new: Report) -> u16 {
-    changed_flags_gained(
-        old.status,
-        old.temperature,
-        old.percentage_used,
-        old.available_spare,
-        old.critical_warning,
-        new.status,
-        new.temperature,
-        new.percentage_used,
-        new.available_spare,
-        new.critical_warning,
-    )
 }
 
 // The bytes of the reply to a request.

@@ -1,52 +1,37 @@
 use console::HexFault;
-use std::error::Error;
-use std::fmt;
 use std::num::TryFromIntError;
+use thiserror::Error;
 
 // Why a line is no call.
-#[derive(Clone, Copy, Debug, PartialEq, Eq)]
+#[derive(Clone, Copy, Debug, Error)]
 pub enum LineFault {
+    #[error("unknown call")]
     UnknownCall,
+    #[error("missing field")]
     MissingField,
+    #[error("surplus field")]
     SurplusField,
+    #[error("not a number in its range")]
     NotANumber,
+    #[error("not a status of four hex digits")]
     NotAStatus,
+    #[error("not a warning of two hex digits")]
     NotAWarning,
+    #[error("not 0 or 1")]
     NotAFlag,
+    #[error("not up or down")]
     NotALink,
+    #[error("not a carrier")]
     NotACarrier,
+    #[error("not a register")]
     NotARegister,
-    Hex(HexFault),
+    #[error("{0}")]
+    Hex(#[from] HexFault),
 }
 
-impl Error for LineFault {}
-
-impl From<HexFault> for LineFault {
-    fn from(fault: HexFault) -> LineFault {
-        LineFault::Hex(fault)
-    }
-}
-
+// By hand: `NotANumber` holds no cause, since text that is no decimal number has none.
 impl From<TryFromIntError> for LineFault {
     fn from(_e: TryFromIntError) -> LineFault {
         LineFault::NotANumber
-    }
-}
-
-impl fmt::Display for LineFault {
-    fn fmt<W: fmt::Write>(&self, f: &mut fmt::Formatter<W>) -> fmt::Result {
-        match self {
-            LineFault::UnknownCall => write!(f, "unknown call"),
-            LineFault::MissingField => write!(f, "missing field"),
-            LineFault::SurplusField => write!(f, "surplus field"),
-            LineFault::NotANumber => write!(f, "not a number in its range"),
-            LineFault::NotAStatus => write!(f, "not a status of four hex digits"),
-            LineFault::NotAWarning => write!(f, "not a warning of two hex digits"),
-            LineFault::NotAFlag => write!(f, "not 0 or 1"),
-            LineFault::NotALink => write!(f, "not up or down"),
-            LineFault::NotACarrier => write!(f, "not a carrier"),
-            LineFault::NotARegister => write!(f, "not a register"),
-            LineFault::Hex(fault) => write!(f, "{fault}"),
-        }
     }
 }

@@ -34,7 +34,7 @@ fn show_message<C: Carrier>(
             let request = C::read_request(bytes.as_slice());
             *asked = request
                 .ok()
-                .and_then(|request| HealthCommand::read(request.command).ok());
+                .and_then(|request| HealthCommand::try_from(request.command).ok());
             show(rt, request.map(|request| RequestText { request }))
         }
         Message::Reply(bytes) => {
@@ -44,7 +44,7 @@ fn show_message<C: Carrier>(
         }
         Message::Ask(Asked { tag, command }) => {
             let mut space = [0u8; 128];
-            let written = C::write_request(tag, command.command(), &mut space);
+            let written = C::write_request(tag, command.into(), &mut space);
             show(
                 rt,
                 written.map(|length| HexBytes {

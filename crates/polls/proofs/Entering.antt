@@ -11,7 +11,6 @@ use Rattle.commands.specs.ControllerData.{entry_bytes}
 use Rattle.commands.specs.declared.controller_poll.ControllerHealthPoll.{ControllerHealthPoll}
 use Rattle.table.proofs.Places.{not_below}
 use Rattle.register.specs.Controllers.{ControllerValues, first_from}
-use Rattle.register.proofs.Below.{not_below}
 use Rattle.model.specs.Requests.{qualifies, chosen, cleared, entry_for, entries}
 use Rattle.polls.specs.Polls.{row_after}
 use Rattle.polls.proofs.Steps.{drop_nth, drop_nth_none}

@@ -1,42 +1,28 @@
-use std::{fmt, io};
+use console::RefusalText;
+use std::io;
 use subsystem::Fault;
+use thiserror::Error;
 use wire::WireFault;
 
 // Why the run ends early.
-#[derive(Clone, Copy)]
+#[derive(Clone, Copy, Debug, Error)]
 pub enum RunFault {
-    Refused(Fault),
+    #[error("{text}", text = RefusalText {fault: *.0})]
+    Refused(#[from] Fault),
+    #[error("standard output is closed")]
     NotPrinted,
 }
 
-impl From<Fault> for RunFault {
-    fn from(fault: Fault) -> RunFault {
-        RunFault::Refused(fault)
-    }
-}
-
+// By hand: what a carrier refused is the subsystem's refusal.
 impl From<WireFault> for RunFault {
     fn from(fault: WireFault) -> RunFault {
         RunFault::Refused(Fault::Carrier(fault))
     }
 }
 
+// By hand: the cause is not kept, so that the fault is plain data.
 impl From<io::Error> for RunFault {
     fn from(_e: io::Error) -> RunFault {
         RunFault::NotPrinted
-    }
-}
-
-impl fmt::Display for RunFault {
-    fn fmt<W: fmt::Write>(&self, f: &mut fmt::Formatter<W>) -> fmt::Result {
-        match self {
-            RunFault::Refused(fault) => {
-                let number = fault.number();
-                let layer = fault.layer();
-                let place = fault.place();
-                write!(f, "refused {number} layer {layer} place {place}: {fault}")
-            }
-            RunFault::NotPrinted => write!(f, "standard output is closed"),
-        }
     }
 }

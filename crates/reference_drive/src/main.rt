@@ -6,7 +6,6 @@ mod fault;
 mod poll;
 mod power;
 
-use anyhow::anyhow;
 use fault::RunFault;
 use power::PoweredDrive;
 use wire::{Endpoint, Tunnel};
@@ -22,10 +21,7 @@ fn poll_from_each(rt: &HostRuntime) -> Result<(), RunFault> {
 }
 
 fn run(rt: &HostRuntime) -> anyhow::Result<()> {
-    match poll_from_each(rt) {
-        Ok(()) => Ok(()),
-        Err(fault) => Err(anyhow!(format!(in rt.alloc(); "{fault}")?)),
-    }
+    Ok(poll_from_each(rt)?)
 }
 
 fn main(rt: HostRuntime) -> anyhow::Result<()> {

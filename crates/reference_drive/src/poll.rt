@@ -17,7 +17,7 @@ impl PoweredDrive {
             ..ControllerHealthPoll::default()
         });
         let mut request_space = [0u8; 128];
-        let length = C::write_request(false, poll.command(), &mut request_space)?;
+        let length = C::write_request(false, poll.into(), &mut request_space)?;
         let request = &request_space[..length];
         let text = RequestText {
             request: C::read_request(request)?,

@@ -1,3 +1,2 @@
-pub mod Below
 pub mod Enrolling
 pub mod Lawful

@@ -11,7 +11,6 @@ use Rattle.health.specs.declared.report.Report.{Report}
 use Rattle.health_rules.specs.FlagRule.{gained}
 use Rattle.table.proofs.Places.{not_below}
 use Rattle.register.specs.Controllers.{ControllerValues, first_from, present, written}
-use Rattle.register.proofs.Below.{not_below}
 use Rattle.polls.proofs.Steps.{nth_within}
 use Rattle.model.proofs.Controllers.{Ascends}
 use Rattle.model.specs.Reports.{renewed, marked_row, risen, each_row, union, marked}
