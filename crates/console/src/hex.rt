@@ -6,7 +6,7 @@ use std::alloc::{AllocError, AllocFailed, Global};
 use std::fmt;
 use thiserror::Error;
 
-// Bytes as pairs of hex digits.
+// Bytes as pairs of hex digits. The field has a name, as in the other texts: `HexBytes { bytes }` is no longer than `HexBytes(bytes)`.
 #[derive(Clone, Copy)]
 pub struct HexBytes<'a> {
     pub bytes: &'a [u8],
