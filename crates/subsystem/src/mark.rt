@@ -9,13 +9,6 @@ use crate::memory::row_index;
 use crate::responder::Responder;
 use health::{ChangedFlags, Row, StatusEvents};
 
-// The Responder's composite flags rise where the row's flags do.
-fn raise(responder: Responder, row: Row, gained: ChangedFlags) -> Responder
-    ensures { responder_of result ≡ raised gained.bits (row_of row) (responder_of responder) }
-{
-    responder.with_composite(responder.composite.union(gained.difference(row.changed)))
-}
-
 // Each Responder's row of the controller at a place gains the flags and the status events.
 pub(crate) fn mark_responders(
     responders: &mut [Responder],
@@ -30,10 +23,9 @@ pub(crate) fn mark_responders(
     ensures marks_each { responders_with_rows controllers (map responder_of responders.new) (map row_of rows.new) ≡ map (marked_at place gained.bits events.bits) (responders_with_rows controllers (map responder_of responders.old) (map row_of rows.old)) }
     ensures leaves_the_spare_rows { drop (length responders.old * controllers) (map row_of rows.new) ≡ drop (length responders.old * controllers) (map row_of rows.old) }
 {
-    for r in 0..responders.len() {
-        let at = row_index(r, controllers, place);
-        let row = rows[at];
-        responders[r] = raise(responders[r], row, gained);
-        rows[at] = row.with(gained, events);
+    for (r, responder) in responders.iter_mut().enumerate() {
+        let row = &mut rows[row_index(r, controllers, place)];
+        responder.composite = responder.composite.union(gained.difference(row.changed));
+        *row = row.with(gained, events);
     }
 }

@@ -8,7 +8,7 @@ ghost use Rattle.subsystem.specs.States.{state_of};
 use crate::fault::Fault;
 use crate::memory::{check_length, first_row, rows_needed};
 use crate::service::Subsystem;
-use health::Row;
+use health::{ChangedFlags, Row};
 use polls::clear_rows;
 use register::Register;
 
@@ -31,7 +31,7 @@ impl Subsystem {
         let controllers = register.len();
         let first = first_row(r, controllers);
         clear_rows(&mut rows[first..first + controllers]);
-        self.responders[r] = self.responders[r].without_composite();
+        self.responders[r].composite = ChangedFlags::none();
         Ok(())
     }
 }

@@ -67,19 +67,18 @@ impl Subsystem {
         let Lengths { head, .. } = C::lengths();
         let controllers = register.len();
         let first = first_row(responder, controllers);
-        let port_count = self.port_count;
-        let own = self.responders[responder];
+        let composite = self.responders[responder].composite;
         let answered = answer_behind_head(
             asked,
             register,
             &mut rows[first..first + controllers],
-            own.composite,
+            composite,
             self.status,
-            &ports[0..port_count],
+            &ports[0..self.port_count],
             head,
             reply,
         );
-        self.responders[responder] = own.with_composite(answered.composite);
+        self.responders[responder].composite = answered.composite;
         write_head_before::<C>(asked, answered, reply)
     }
 

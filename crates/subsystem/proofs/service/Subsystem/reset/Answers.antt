@@ -7,6 +7,7 @@ use Rattle.model.specs.State.{with_responders}
 use Rattle.model.specs.Calls.{reset, accepted, judged, reset_responder, Step, step}
 use Rattle.subsystem.specs.Faults.{in_numbers, fault_refusal}
 use Rattle.subsystem.specs.Responders.{responder_of}
+use Rattle.subsystem.specs.declared.responder.Responder.{Responder}
 use Rattle.subsystem.specs.States.{with_its_rows, state_of}
 use Rattle.subsystem.proofs.Checks.{test_passed, by_needed}
 use Rattle.subsystem.proofs.OneResponder.{same_change, responder_there, responder_exists, responder_absent, responder_replaced, length_lent, own_rows_length}
@@ -68,6 +69,8 @@ returns g c =
     let n = k + c.len-controllers.result - k in
     let part = c.clear_rows.new.rows in
     let old = c.index-self-r.result in
+    let kind = (get_or x.responders r old).kind in
+    let new : Responder = record { kind = kind; composite = c.none.result } in
     let en : n ≡ length m.controllers = omega (arith, c.len-controllers.ensures) in
     let ek : k ≡ r * length m.controllers = c.first_row-first.ensures ∙ ap (λ v. r * v) c.len-controllers.ensures in
     let tested = by_needed (length rows) _ _ (Ok tt) c.rows_needed.ensures c.in_ok-check_length.ensures in
@@ -78,9 +81,9 @@ returns g c =
     record {
       is_answered_and_done_as_the_model_says = λ rest ports.
           let s = state_of x m (rows ++ rest) ports in
-          ap {B = Step} (λ v. record { answer = accepted; state = v }) (responder_replaced x m rows part rest ports r k n c.without_composite.result c.if-r-self.false ek en room long
-          ∙ ap (with_responders s) (same_change s.responders r _ (λ _. with_its_rows (responder_of c.without_composite.result) (map row_of part)) reset_responder (responder_there x m (rows ++ rest) ports r old c.if-r-self.false)
-          (is_reset (responder_of c.without_composite.result) (responder_of (get_or x.responders r old)) (map row_of part) _ (length m.controllers) c.without_composite.ensures cleared
+          ap {B = Step} (λ v. record { answer = accepted; state = v }) (responder_replaced x m rows part rest ports r k n new c.if-r-self.false ek en room long
+          ∙ ap (with_responders s) (same_change s.responders r _ (λ _. with_its_rows (responder_of new) (map row_of part)) reset_responder (responder_there x m (rows ++ rest) ports r old c.if-r-self.false)
+          (is_reset (responder_of new) (responder_of (get_or x.responders r old)) (map row_of part) _ (length m.controllers) (ap (λ v. record { kind = kind; composite = v }) c.none.ensures) cleared
           (own_rows_length (length m.controllers) r k rows rest ek within))))
           ∙ reset_taken s r (length rows) (Ok tt) (let y = responder_exists x m (rows ++ rest) ports r c.if-r-self.false in reset_tested x m (rows ++ rest) ports r (length rows) y.0 y.1 (Ok tt) tested)
           ∙ ap (λ v. step s (reset v (length rows))) c.from-r.ensures;
