@@ -9,10 +9,11 @@ ghost use Rattle.subsystem.specs.States.{state_of, responders_of};
 ghost use Rattle.subsystem.specs.Replies.{exchanged, Responds};
 ghost use Rattle.subsystem.specs.Admission.{admission};
 
+use crate::answer::Polled;
 use crate::fault::Fault;
 use crate::lent::Lent;
 use crate::memory::{check_length, first_row, rows_needed};
-use crate::reply::{answer_behind_head, write_head_before};
+use crate::reply::write_head_before;
 use crate::service::Subsystem;
 use health::Row;
 use register::{Port, Register};
@@ -67,17 +68,14 @@ impl Subsystem {
         let Lengths { head, .. } = C::lengths();
         let controllers = register.len();
         let first = first_row(responder, controllers);
-        let composite = self.responders[responder].composite;
-        let answered = answer_behind_head(
-            asked,
+        let polled = Polled {
             register,
-            &mut rows[first..first + controllers],
-            composite,
-            self.status,
-            &ports[0..self.port_count],
-            head,
-            reply,
-        );
+            status: self.status,
+            ports: &ports[0..self.port_count],
+            composite: self.responders[responder].composite,
+        };
+        let own = &mut rows[first..first + controllers];
+        let answered = polled.answer_behind_head(own, asked, head, reply);
         self.responders[responder].composite = answered.composite;
         write_head_before::<C>(asked, answered, reply)
     }

@@ -21,8 +21,8 @@ offset_bounds-rows-first g c =
     let h = own_rows_lent _ _ _ _ _ c.requires.a_responder_in_use c.first_row-first.ensures room in
     search rules
 
-pub slice_bounds-answer_behind_head-end : goal.slice_bounds-answer_behind_head-end
-slice_bounds-answer_behind_head-end g c =
+pub slice_bounds-own-end : goal.slice_bounds-own-end
+slice_bounds-own-end g c =
     let room = subst (λ (v : ℕ). c.args.self.now.responder_count * v ≤ length c.args.rows.now) (sym c.len-controllers.ensures) c.requires.rows_for_all in
     let h = own_rows_lent _ _ _ _ _ c.requires.a_responder_in_use c.first_row-first.ensures room in
     omega arith

@@ -3,7 +3,7 @@ use borrow.Rule.Slice.PartMut.{mid_of, put_mid}
 use Rattle.std.proofs.lemmas.List.{take_rest, drop_all, drop_at, length-drop, length-take-le, append-nil}
 use Rattle.health.specs.Rows.{row_of}
 use Rattle.subsystem.proofs.Responding.{over_same_memory}
-use Rattle.subsystem.proofs.reply.answer_behind_head.Goals as goal
+use Rattle.subsystem.proofs.answer.Polled.answer_behind_head.Goals as goal
 
 -- the memory from k on, lent and given back
 given_back : (k : ℕ) (before part : List ℕ) → k ≤ length before → drop k (put_mid k (length before - k) before part) ≡ part

@@ -5,7 +5,7 @@ use Rattle.commands.specs.SubsystemData.{subsystem_bytes}
 use Rattle.polls.specs.Shown.{status_of}
 use Rattle.model.specs.Requests.{health_shown, with_composite}
 use Rattle.subsystem.specs.Replies.{responder_with}
-use Rattle.subsystem.proofs.answer.answer_subsystem_poll.Goals as goal
+use Rattle.subsystem.proofs.answer.Polled.answer_subsystem_poll.Goals as goal
 
 -- the Responder of a subsystem poll, with or without Clear Status
 shown_responder : (clear : Bool) (kind composite : ℕ) (ws : List RowValues)
@@ -15,10 +15,10 @@ shown_responder false kind composite ws = refl
 
 pub returns : goal.returns
 returns g c =
-    let m = g.R.Register.meaning c.args.register.now in
-    let ports = c.args.ports.now in
-    let status = status_of c.args.status in
-    let composite = c.args.composite.bits in
+    let m = g.R.Register.meaning c.args.self.now.register.now in
+    let ports = c.args.self.now.ports.now in
+    let status = status_of c.args.self.now.status in
+    let composite = c.args.self.now.composite.bits in
     let bytes = c.to_bytes-bytes.ensures.is_these_bytes ∙ ap subsystem_bytes (c.subsystem_health.ensures ∙ ap (λ used. health_shown m status used composite) (sym (take_all (length ports) ports (omega arith)))) in
     λ kind ws. record {
       has_the_head = c.success.ensures;
