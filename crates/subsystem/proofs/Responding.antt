@@ -2,7 +2,7 @@
 use Rattle.std.proofs.Common.{◌≡◌, ℕ, ◌+◌, ◌-◌, ◌*◌, ◌≤◌, cond, not, eqb, List, ◌++◌, map, length, take, drop, Ok, Err, Result, sym, refl, ap, ◌∙◌, subst, arith}
 use native.Mathlib.Nat.{sub-zero}
 use borrow.Rule.Slice.PartMut.{mid_of}
-use Rattle.std.proofs.lemmas.List.{length-append, length-drop, append_assoc, drop-drop, take_all, take-append-le, drop-append-le, take-map, drop-map}
+use Rattle.std.proofs.lemmas.List.{length-append, length-drop, take-append-drop, append_assoc, drop-drop, take_all, take-append-le, drop-append-le, take-map, drop-map}
 use Rattle.health.specs.Rows.{RowValues, row_of}
 use Rattle.health.specs.declared.row.Row.{Row}
 use Rattle.wire.specs.Meaning.{CarrierMeaning}
@@ -46,6 +46,21 @@ data_fits payload before after e l =
     let n = ap length e ∙ length-append payload (drop (length payload) before) in
     let d = length-drop (length payload) before in
     omega arith
+
+-- a reply at the front of longer memory
+pub at_the_front : (v : Served) (kind : ℕ) (r : Answered) (rows : List RowValues) (n : ℕ) (memory front part : List ℕ) → n ≤ length memory → front ≡ take n memory
+    → length part ≡ length front → ReplyIs v kind r rows front part → ReplyIs v kind r rows memory (part ++ drop n memory)
+at_the_front v kind r rows n memory front part room e long h =
+    let fits = data_fits v.payload front part h.writes_the_data long in
+    let k = length v.payload in
+    record {
+      has_the_head = h.has_the_head;
+      has_the_length = h.has_the_length;
+      writes_the_data =
+          ap (λ l. l ++ drop n memory) h.writes_the_data ∙ append_assoc v.payload (drop k front) (drop n memory)
+          ∙ ap (λ l. v.payload ++ l) (sym (drop-append-le k front (drop n memory) fits) ∙ ap (drop k) (ap (λ l. l ++ drop n memory) e ∙ take-append-drop n memory));
+      leaves_the_responder = h.leaves_the_responder;
+    }
 
 -- a head and the data behind it
 reply_whole : (head payload before middle after : List ℕ) (k : ℕ) → length head ≡ k → after ≡ head ++ drop k middle

@@ -13,6 +13,9 @@ use polls::{SubsystemStatus, subsystem_health, write_entries};
 use register::{Port, Register};
 use wire::{Head, Request};
 
+// The memory for the data of a reply: 255 entries of 16 bytes.
+pub(crate) type Payload = [u8; 4080];
+
 // The head of a reply, how many bytes of data stand behind it, and the Responder's composite flags afterwards.
 #[derive(Clone, Copy)]
 pub(crate) struct Answered {
@@ -95,9 +98,8 @@ impl<R: Register> Polled<'_, R> {
         &self,
         own: &mut [Row],
         poll: ControllerHealthPoll,
-        payload: &mut [u8],
+        payload: &mut Payload,
     ) -> Answered
-        requires { 4080 ≤ length payload.old }
         ensures { (kind : ℕ) → ReplyIs (health_poll (polled_drive (R.Register.meaning self.now.register.now)) (responder_with kind self.now.composite.bits (map row_of own.old)) poll) kind result (map row_of own.new) payload.old payload.new }
     {
         if largest_id(self.register) < poll.sctlid {
@@ -121,8 +123,7 @@ impl<R: Register> Polled<'_, R> {
     }
 
     // An NVM Subsystem Health Status Poll.
-    fn answer_subsystem_poll(&self, clear_status: bool, payload: &mut [u8]) -> Answered
-        requires { 4080 ≤ length payload.old }
+    fn answer_subsystem_poll(&self, clear_status: bool, payload: &mut Payload) -> Answered
         ensures { (kind : ℕ) (ws : List RowValues) → ReplyIs (by_command (drive_shown (R.Register.meaning self.now.register.now) (status_of self.now.status) self.now.ports.now) (responder_with kind self.now.composite.bits ws) (Ok (subsystem_poll clear_status))) kind result ws payload.old payload.new }
     {
         let bytes = subsystem_health(
@@ -144,9 +145,8 @@ impl<R: Register> Polled<'_, R> {
         &self,
         own: &mut [Row],
         command: HealthCommand,
-        payload: &mut [u8],
+        payload: &mut Payload,
     ) -> Answered
-        requires { 4080 ≤ length payload.old }
         ensures { (kind : ℕ) → ReplyIs (by_command (drive_shown (R.Register.meaning self.now.register.now) (status_of self.now.status) self.now.ports.now) (responder_with kind self.now.composite.bits (map row_of own.old)) (Ok (asked_of command))) kind result (map row_of own.new) payload.old payload.new }
     {
         match command {
@@ -168,9 +168,8 @@ impl<R: Register> Polled<'_, R> {
         &self,
         own: &mut [Row],
         request: Request,
-        payload: &mut [u8],
+        payload: &mut Payload,
     ) -> Answered
-        requires { 4080 ≤ length payload.old }
         ensures { (kind : ℕ) → ReplyIs (served (drive_shown (R.Register.meaning self.now.register.now) (status_of self.now.status) self.now.ports.now) (responder_with kind self.now.composite.bits (map row_of own.old)) request) kind result (map row_of own.new) payload.old payload.new }
     {
         if request.surplus != 0 {

@@ -11,6 +11,19 @@ use register::Register;
 use wire::{Carrier, Request};
 
 impl<R: Register> Polled<'_, R> {
+    // Answers a request, with the data at the front of the memory.
+    fn answer_in(&self, own: &mut [Row], asked: Request, memory: &mut [u8]) -> Answered
+        requires { 4080 ≤ length memory.old }
+        ensures { (kind : ℕ) → ReplyIs (served (drive_shown (R.Register.meaning self.now.register.now) (status_of self.now.status) self.now.ports.now) (responder_with kind self.now.composite.bits (map row_of own.old)) asked) kind result (map row_of own.new) memory.old memory.new }
+    {
+        let Some(payload) = memory.first_chunk_mut() else {
+            unreachable()
+        };
+        let answered = self.answer_request(own, asked, payload);
+        prove!(payload.len() == 4080);
+        answered
+    }
+
     // Answers a request, with the data behind a head of this length.
     pub(crate) fn answer_behind_head(
         &self,
@@ -22,7 +35,7 @@ impl<R: Register> Polled<'_, R> {
         requires { head + 4080 ≤ length reply.old }
         ensures { (kind : ℕ) → ReplyIs (served (drive_shown (R.Register.meaning self.now.register.now) (status_of self.now.status) self.now.ports.now) (responder_with kind self.now.composite.bits (map row_of own.old)) asked) kind result (map row_of own.new) (drop head reply.old) (drop head reply.new) }
     {
-        self.answer_request(own, asked, &mut reply[head..])
+        self.answer_in(own, asked, &mut reply[head..])
     }
 }
 

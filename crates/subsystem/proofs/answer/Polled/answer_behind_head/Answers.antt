@@ -16,6 +16,6 @@ pub returns : goal.returns
 returns g c = λ kind.
     let before = c.args.reply.now in
     let k = c.args.head in
-    let part = c.answer_request.new.payload in
-    over_same_memory _ kind c.answer_request.result (map row_of c.answer_request.new.own) (mid_of k (length before - k) before) (drop k before) part (drop k (put_mid k (length before - k) before part))
-    (take_rest before k) (sym (given_back k before part (omega arith))) (c.answer_request.ensures kind)
+    let part = c.answer_in.new.memory in
+    over_same_memory _ kind c.answer_in.result (map row_of c.answer_in.new.own) (mid_of k (length before - k) before) (drop k before) part (drop k (put_mid k (length before - k) before part))
+    (take_rest before k) (sym (given_back k before part (omega arith))) (c.answer_in.ensures kind)
