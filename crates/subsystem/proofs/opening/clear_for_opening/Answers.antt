@@ -1,4 +1,4 @@
-use Rattle.std.proofs.Common.{◌≡◌, ◌≤◌, ◌||◌, eqb, ◌++◌, map, length, drop, replicate, Ok, Err, sym, refl, ap, ◌∙◌, rules}
+use Rattle.std.proofs.Common.{◌≡◌, ◌*◌, ◌≤◌, ◌||◌, eqb, ◌++◌, map, length, drop, replicate, Ok, Err, sym, refl, ap, ◌∙◌, rules}
 use Rattle.std.proofs.lemmas.List.{length-map}
 use Rattle.std.proofs.lemmas.Result.{err_from_is_err_and}
 use Rattle.std.proofs.lemmas.Bool.{ltb-false}
@@ -22,7 +22,7 @@ returns-in_err-check_length g c =
       refused_without_controllers_responders_or_rows =
           ap in_numbers same
           ∙ open_tested b m (map row_of rows) (Err (fault_refusal f)) (c.if-nothing_to_open.ensures ∙ ap (λ n. eqb b.responder_count 0 || eqb n 0) c.len.ensures)
-          (by_lent _ _ _ (Err (fault_refusal f)) (sym (length-map rows row_of)) (by_needed (length rows) _ _ (Err (fault_refusal f)) c.rows_needed-needed.ensures c.in_err-check_length.ensures));
+          (by_lent _ _ _ (Err (fault_refusal f)) (sym (length-map rows row_of)) (by_needed (length rows) _ _ (Err (fault_refusal f)) (c.needed-needed.ensures ∙ (λ i. c.of.ensures.for_the_responders i * c.of.ensures.for_the_controllers i)) c.in_err-check_length.ensures));
       clears_the_rows_in_use = sym (ap (λ r. rows_after_opening (in_numbers r) (fitted_of b) m (map row_of rows)) same);
       a_refusal_changes_nothing = λ _. refl;
     }
@@ -32,14 +32,14 @@ returns g c =
     let b = c.args.builder.now in
     let m = g.R.Register.meaning c.args.register.now in
     let rows = c.args.rows.now in
-    let n = c.rows_needed-needed.result in
+    let n = c.needed-needed.result in
     let tested = c.in_ok-check_length.ensures in
     let room : n ≤ length rows = ltb-false (length rows) n (test_passed _ _ tested) in
-    let needed = c.rows_needed-needed.ensures ∙ needed_is b m (map row_of rows) in
+    let needed = (c.needed-needed.ensures ∙ (λ i. c.of.ensures.for_the_responders i * c.of.ensures.for_the_controllers i)) ∙ needed_is b m (map row_of rows) in
     record {
       refused_without_controllers_responders_or_rows =
           open_tested b m (map row_of rows) (Ok tt) (c.if-nothing_to_open.ensures ∙ ap (λ n. eqb b.responder_count 0 || eqb n 0) c.len.ensures)
-          (by_lent _ _ _ (Ok tt) (sym (length-map rows row_of)) (by_needed (length rows) _ _ (Ok tt) c.rows_needed-needed.ensures tested));
+          (by_lent _ _ _ (Ok tt) (sym (length-map rows row_of)) (by_needed (length rows) _ _ (Ok tt) (c.needed-needed.ensures ∙ (λ i. c.of.ensures.for_the_responders i * c.of.ensures.for_the_controllers i)) tested));
       clears_the_rows_in_use =
           rows_cleared n rows c.clear_rows.new.rows room c.clear_rows.ensures ∙ ap (λ v. replicate v clear_row ++ drop v (map row_of rows)) needed;
       a_refusal_changes_nothing = search rules;

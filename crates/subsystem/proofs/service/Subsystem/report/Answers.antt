@@ -28,7 +28,7 @@ returns-in_err-check_length g c =
           ap {B = Step} (λ r. record { answer = judged (in_numbers r); state = s }) same
           ∙ report_taken s (length rows) c.args.id c.args.new (Err (fault_refusal f))
           (report_short x m (rows ++ rest) rows ports c.args.id c.args.new (sym c.if-not-is_well_formed.ensures) (fault_refusal f)
-          (by_needed (length rows) _ _ (Err (fault_refusal f)) c.rows_needed.ensures c.in_err-check_length.ensures));
+          (by_needed (length rows) _ _ (Err (fault_refusal f)) (c.needed.ensures ∙ (λ i. c.of-layout.ensures.for_the_responders i * c.of-layout.ensures.for_the_controllers i)) c.in_err-check_length.ensures));
       a_refusal_changes_nothing = λ _. (refl, refl, refl);
     }
 
@@ -37,7 +37,7 @@ returns-in_default g c =
     let x = c.args.self.now in
     let m = g.R.Register.meaning c.args.register.now in
     let rows = c.args.rows.now in
-    let room = test_passed _ _ (by_needed (length rows) _ _ (Ok tt) c.rows_needed.ensures c.in_ok-check_length.ensures) in
+    let room = test_passed _ _ (by_needed (length rows) _ _ (Ok tt) (c.needed.ensures ∙ (λ i. c.of-layout.ensures.for_the_responders i * c.of-layout.ensures.for_the_controllers i)) c.in_ok-check_length.ensures) in
     record {
       is_answered_and_done_as_the_model_says = λ rest ports.
           report_taken (state_of x m (rows ++ rest) ports) (length rows) c.args.id c.args.new (Err (unknown_identifier c.args.id))
@@ -50,11 +50,12 @@ mark_responders-requires g c =
     let cs = (g.R.Register.meaning c.args.register.now).controllers in
     let found = c.in-Some.ensures in
     let rows = length c.args.rows.now in
-    let room = ltb-false _ _ (test_passed _ _ (by_needed rows _ _ (Ok tt) c.rows_needed.ensures c.in_ok-check_length.ensures)) in
+    let room = ltb-false _ _ (test_passed _ _ (by_needed rows _ _ (Ok tt) (c.needed.ensures ∙ (λ i. c.of-layout.ensures.for_the_responders i * c.of-layout.ensures.for_the_controllers i)) c.in_ok-check_length.ensures)) in
     let many = length_part c.args.self.now.responder_count c.args.self.now.responders _ (omega arith) refl in
     record {
-      a_place_of_a_controller = omega (arith, nth_below cs c.in-Some.found.place _ found.stands_there, c.len.ensures);
-      rows_for_all = subst (λ (v : ℕ). v * c.len.result ≤ rows) (sym many) (subst (λ (v : ℕ). c.args.self.now.responder_count * v ≤ rows) (sym c.len.ensures) room);
+      a_place_of_a_controller = omega (arith, nth_below cs c.in-Some.found.place _ found.stands_there, c.of-layout.ensures.for_the_controllers);
+      of_these_responders = c.of-layout.ensures.for_the_responders ∙ sym many;
+      rows_for_all = subst (λ (v : ℕ). v * c.of-layout.result.controllers ≤ rows) (sym many) (subst (λ (v : ℕ). c.args.self.now.responder_count * v ≤ rows) (sym c.of-layout.ensures.for_the_controllers) room);
     }
 
 pub invariant_of-self : goal.invariant_of-self
@@ -75,16 +76,16 @@ returns g c =
     let place = c.in-Some.found.place in
     let controller = controller_of c.in-Some.found.controller in
     let part = c.mark_responders.new.responders in
-    let b = test_passed _ _ (by_needed (length rows) _ _ (Ok tt) c.rows_needed.ensures c.in_ok-check_length.ensures) in
+    let b = test_passed _ _ (by_needed (length rows) _ _ (Ok tt) (c.needed.ensures ∙ (λ i. c.of-layout.ensures.for_the_responders i * c.of-layout.ensures.for_the_controllers i)) c.in_ok-check_length.ensures) in
     let marks = c.mark_responders.ensures in
     record {
       is_answered_and_done_as_the_model_says = λ rest ports.
           ap {B = Step} (λ part. record { answer = accepted; state = state_from (drive_of x (g.R.Register.meaning c.renew.new.register) ports) (map responder_of part) (map row_of (c.mark_responders.new.rows ++ rest)) })
           (take_given_back x.responder_count x.responders part (omega arith) c.mark_responders.auto.responders)
           ∙ ap {B = Step} (λ s. record { answer = accepted; state = s })
-          (report_granted x m rows rest ports c.args.id c.args.new c.mark_responders.new.rows _ part (g.R.Register.meaning c.renew.new.register) place c.len.result c.gained_flags.result.bits c.from_status.result.bits controller
+          (report_granted x m rows rest ports c.args.id c.args.new c.mark_responders.new.rows _ part (g.R.Register.meaning c.renew.new.register) place c.of-layout.result.controllers c.gained_flags.result.bits c.from_status.result.bits controller
           (lawful_ascends 0 m.controllers (g.R.Register.holds_lawful_controllers c.args.register.now)) found.stands_there found.has_the_id
-          c.len.ensures c.gained_flags.ensures c.from_status.ensures (part_from_start x.responder_count x.responders) c.mark_responders.auto.responders c.mark_responders.auto.rows
+          c.of-layout.ensures.for_the_controllers c.gained_flags.ensures c.from_status.ensures (part_from_start x.responder_count x.responders) c.mark_responders.auto.responders c.mark_responders.auto.rows
           (ltb-false _ _ b) c.renew.ensures marks.marks_each marks.leaves_the_spare_rows)
           ∙ report_taken (state_of x m (rows ++ rest) ports) (length rows) c.args.id c.args.new (Ok tt)
           (report_accepted x m (rows ++ rest) rows ports c.args.id c.args.new (sym c.if-not-is_well_formed.ensures) b (present_at c.args.id m.controllers place controller found.stands_there found.has_the_id));

@@ -1,4 +1,4 @@
-use Rattle.std.proofs.Common.{◌≡◌, ℕ, ◌+◌, ◌-◌, ◌*◌, ◌≤◌, ◌++◌, map, length, get_or, replicate, Ok, Err, sym, refl, ap, ◌∙◌, subst, arith, rules}
+use Rattle.std.proofs.Common.{◌≡◌, ◌-◌, ◌*◌, ◌++◌, map, length, get_or, replicate, Ok, Err, sym, refl, ap, ◌∙◌, arith, rules}
 use Rattle.std.proofs.lemmas.Result.{err_from_is_err_and}
 use Rattle.std.proofs.lemmas.Bool.{ltb-false}
 use Rattle.health.specs.Rows.{row_of, clear_row}
@@ -43,21 +43,9 @@ returns-in_err-check_length g c =
           ∙ reset_taken s c.args.responder (length rows) (Err (fault_refusal f))
           (let y = responder_exists x m (rows ++ rest) ports c.args.responder (omega (arith, c.from-r.ensures)) in
           reset_tested x m (rows ++ rest) ports c.args.responder (length rows) y.0 y.1 (Err (fault_refusal f))
-          (by_needed (length rows) _ _ (Err (fault_refusal f)) c.rows_needed.ensures c.in_err-check_length.ensures));
+          (by_needed (length rows) _ _ (Err (fault_refusal f)) (c.needed.ensures ∙ (λ i. c.of-layout.ensures.for_the_responders i * c.of-layout.ensures.for_the_controllers i)) c.in_err-check_length.ensures));
       a_refusal_changes_nothing = λ _. (refl, refl);
     }
-
-pub offset_bounds-rows-first : goal.offset_bounds-rows-first
-offset_bounds-rows-first g c =
-    let n : c.rows_needed.result ≡ c.args.self.now.responder_count * c.len-controllers.result = c.rows_needed.ensures ∙ ap (λ v. c.args.self.now.responder_count * v) (sym c.len-controllers.ensures) in
-    let h = own_rows_lent _ _ _ _ _ c.if-r-self.false c.first_row-first.ensures (subst (λ (v : ℕ). v ≤ length c.args.rows.now) n (ltb-false _ _ (test_passed _ _ c.in_ok-check_length.ensures))) in
-    search rules
-
-pub slice_bounds-clear_rows-end : goal.slice_bounds-clear_rows-end
-slice_bounds-clear_rows-end g c =
-    let n : c.rows_needed.result ≡ c.args.self.now.responder_count * c.len-controllers.result = c.rows_needed.ensures ∙ ap (λ v. c.args.self.now.responder_count * v) (sym c.len-controllers.ensures) in
-    let h = own_rows_lent _ _ _ _ _ c.if-r-self.false c.first_row-first.ensures (subst (λ (v : ℕ). v ≤ length c.args.rows.now) n (ltb-false _ _ (test_passed _ _ c.in_ok-check_length.ensures))) in
-    omega arith
 
 pub returns : goal.returns
 returns g c =
@@ -65,15 +53,15 @@ returns g c =
     let m = g.R.Register.meaning c.args.register.now in
     let rows = c.args.rows.now in
     let r = c.from-r.result in
-    let k = c.first_row-first.result in
-    let n = k + c.len-controllers.result - k in
+    let k = c.rows_of.result.start in
+    let n = c.rows_of.result.end - k in
     let part = c.clear_rows.new.rows in
     let old = c.index-self-r.result in
     let kind = (get_or x.responders r old).kind in
     let new : Responder = record { kind = kind; composite = c.none.result } in
-    let en : n ≡ length m.controllers = omega (arith, c.len-controllers.ensures) in
-    let ek : k ≡ r * length m.controllers = c.first_row-first.ensures ∙ ap (λ v. r * v) c.len-controllers.ensures in
-    let tested = by_needed (length rows) _ _ (Ok tt) c.rows_needed.ensures c.in_ok-check_length.ensures in
+    let en : n ≡ length m.controllers = omega (arith, c.rows_of.ensures.begins, c.rows_of.ensures.ends, c.of-layout.ensures.for_the_controllers) in
+    let ek : k ≡ r * length m.controllers = c.rows_of.ensures.begins ∙ ap (λ v. r * v) c.of-layout.ensures.for_the_controllers in
+    let tested = by_needed (length rows) _ _ (Ok tt) (c.needed.ensures ∙ (λ i. c.of-layout.ensures.for_the_responders i * c.of-layout.ensures.for_the_controllers i)) c.in_ok-check_length.ensures in
     let room = ltb-false _ _ (test_passed _ _ tested) in
     let within = own_rows_lent r x.responder_count (length m.controllers) k (length rows) c.if-r-self.false ek room in
     let long : length part ≡ length m.controllers = length_lent k (length m.controllers) n rows part en within c.clear_rows.auto.rows in
