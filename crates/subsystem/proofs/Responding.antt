@@ -1,5 +1,5 @@
 -- A request that is answered at one Responder, and its reply.
-use Rattle.std.proofs.Common.{◌≡◌, ℕ, ◌+◌, ◌-◌, ◌*◌, ◌≤◌, cond, not, eqb, List, ◌++◌, map, length, take, drop, Ok, Err, Result, sym, refl, ap, ◌∙◌, subst, arith}
+use Rattle.std.proofs.Common.{◌≡◌, ℕ, ◌+◌, ◌-◌, ◌*◌, ◌≤◌, cond, not, eqb, List, ◌++◌, map, length, take, drop, Ok, Err, Result, sym, refl, ap, ◌∙◌, arith}
 use native.Mathlib.Nat.{sub-zero}
 use borrow.Rule.Slice.PartMut.{mid_of}
 use Rattle.std.proofs.lemmas.List.{length-append, length-drop, take-append-drop, append_assoc, drop-drop, take_all, take-append-le, drop-append-le, take-map, drop-map}
@@ -34,11 +34,6 @@ module _ (d e : Drive) (registers : d.register ≡ e.register) (statuses : d.sta
 
   pub same_served : (q : Request) → served d x q ≡ served e x q
   same_served q = λ i. cond (not (eqb q.surplus 0)) (error invalid_command_size x) (cond q.meb (error (invalid_parameter 2) x) (same_command (asked_in q.command) i))
-
--- a reply over memory that holds the same
-pub over_same_memory : (v : Served) (kind : ℕ) (r : Answered) (rows : List RowValues) (a a' b b' : List ℕ) → a ≡ a' → b ≡ b' → ReplyIs v kind r rows a b → ReplyIs v kind r rows a' b'
-over_same_memory v kind r rows a a' b b' e f h =
-    subst (λ (l : List ℕ). ReplyIs v kind r rows l b') e (subst (λ (l : List ℕ). ReplyIs v kind r rows a l) f h)
 
 -- data that were written fit their memory
 pub data_fits : (payload before after : List ℕ) → after ≡ payload ++ drop (length payload) before → length after ≡ length before → length payload ≤ length before
