@@ -16,7 +16,3 @@ test_passed false q e = refl
 pub by_needed : (lent k n : ℕ) (o : Result (Unit {0}) Refusal) → k ≡ n → o ≡ refuse_if (ltb lent k) (memory_too_short k) (Ok tt)
     → o ≡ refuse_if (ltb lent n) (memory_too_short n) (Ok tt)
 by_needed lent k n o e h = h ∙ ap (λ v. refuse_if (ltb lent v) (memory_too_short v) (Ok tt)) e
-
--- how much is lent, in the test of the code
-pub by_lent : (a b k : ℕ) (o : Result (Unit {0}) Refusal) → a ≡ b → o ≡ refuse_if (ltb a k) (memory_too_short k) (Ok tt) → o ≡ refuse_if (ltb b k) (memory_too_short k) (Ok tt)
-by_lent a b k o e h = h ∙ ap (λ v. refuse_if (ltb v k) (memory_too_short k) (Ok tt)) e

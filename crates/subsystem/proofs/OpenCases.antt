@@ -24,17 +24,10 @@ use Rattle.subsystem.proofs.RowGroups.{suc_mul_front, state_with_rest}
 pub kinds_count : (b : SubsystemBuilder) → length (fitted_of b).kinds ≡ b.responder_count
 kinds_count b = length-take-le b.responder_count b.kinds (let l = b.at_most_8_responders in let e = b.eight_kinds in omega arith)
 
--- the tests
+-- how many rows they need
 module _ (b : SubsystemBuilder) (m : RegisterValues) (ws : List RowValues) where
   abbrev c : ℕ
   c = length m.controllers
-
-  abbrev tests : ℕ → Result (Unit {0}) Refusal
-  tests n = refuse_if (eqb n 0 || eqb c 0) nothing_to_open (refuse_if (ltb (length ws) (n * c)) (memory_too_short (n * c)) (Ok tt))
-
-  pub open_tested : (o : Result (Unit {0}) Refusal) → false ≡ (eqb b.responder_count 0 || eqb c 0)
-      → o ≡ refuse_if (ltb (length ws) (b.responder_count * c)) (memory_too_short (b.responder_count * c)) (Ok tt) → o ≡ open_answer (fitted_of b) m ws
-  open_tested o h e = let q = sym h in e ∙ sym (ap tests (kinds_count b) ∙ simp q)
 
   pub needed_is : b.responder_count * c ≡ rows_to_open (fitted_of b) m
   needed_is = ap (λ n. n * c) (sym (kinds_count b))

@@ -3,7 +3,7 @@ use Rattle.std.proofs.Common.{◌≡◌, ℕ, zero, suc, ◌-◌, ◌*◌, ◌<�
 use native.Mathlib.Nat.{sub-zero}
 use borrow.Rule.Slice.PartMut.{mid_of, post_of}
 use Rattle.std.specs.List.{slice_get}
-use Rattle.std.proofs.lemmas.List.{length-map, length-append, length-take-le, length-drop, take_at, map-append}
+use Rattle.std.proofs.lemmas.List.{length-map, length-take-le, length-drop, take_at, map-append}
 use Rattle.health.specs.Rows.{RowValues, row_of}
 use Rattle.health.specs.Status.{events_in}
 use Rattle.health.specs.Values.{HealthValues, reported_health, well_formed}
@@ -117,9 +117,6 @@ part_from_start n xs = ap (λ k. take k xs) (sub-zero n)
 module _ {X : Type 0} (n : ℕ) (xs part : List X) (room : n ≤ length xs) (as_many : length part ≡ length (mid_of 0 (n - 0) xs)) where
   pub length_part : length part ≡ n
   length_part = as_many ∙ ap length (part_from_start n xs) ∙ length-take-le n xs room
-
-  pub length_given_back : length (part ++ post_of 0 (n - 0) xs) ≡ length xs
-  length_given_back = ap (λ k. length (part ++ drop k xs)) (sub-zero n) ∙ length-append part (drop n xs) ∙ (let d = length-drop n xs in let p = length_part in omega arith)
 
   pub take_given_back : take n (part ++ post_of 0 (n - 0) xs) ≡ part
   take_given_back = take_at part (post_of 0 (n - 0) xs) n length_part

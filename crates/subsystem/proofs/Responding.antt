@@ -1,8 +1,8 @@
 -- A request that is answered at one Responder, and its reply.
-use Rattle.std.proofs.Common.{◌≡◌, ℕ, ◌+◌, ◌-◌, ◌*◌, ◌≤◌, cond, not, eqb, List, ◌++◌, map, length, take, drop, Ok, Err, Result, sym, refl, ap, ◌∙◌, subst, arith}
+use Rattle.std.proofs.Common.{◌≡◌, ℕ, ◌+◌, ◌-◌, ◌*◌, ◌≤◌, cond, not, eqb, List, ◌++◌, map, length, take, drop, Ok, Err, Result, sym, refl, ap, ◌∙◌, arith}
 use native.Mathlib.Nat.{sub-zero}
 use borrow.Rule.Slice.PartMut.{mid_of}
-use Rattle.std.proofs.lemmas.List.{length-append, length-drop, append_assoc, drop-drop, take_all, take-append-le, drop-append-le, take-map, drop-map}
+use Rattle.std.proofs.lemmas.List.{length-append, length-drop, take-append-drop, append_assoc, drop-drop, take_all, take-append-le, drop-append-le, take-map, drop-map}
 use Rattle.health.specs.Rows.{RowValues, row_of}
 use Rattle.health.specs.declared.row.Row.{Row}
 use Rattle.wire.specs.Meaning.{CarrierMeaning}
@@ -35,17 +35,27 @@ module _ (d e : Drive) (registers : d.register ≡ e.register) (statuses : d.sta
   pub same_served : (q : Request) → served d x q ≡ served e x q
   same_served q = λ i. cond (not (eqb q.surplus 0)) (error invalid_command_size x) (cond q.meb (error (invalid_parameter 2) x) (same_command (asked_in q.command) i))
 
--- a reply over memory that holds the same
-pub over_same_memory : (v : Served) (kind : ℕ) (r : Answered) (rows : List RowValues) (a a' b b' : List ℕ) → a ≡ a' → b ≡ b' → ReplyIs v kind r rows a b → ReplyIs v kind r rows a' b'
-over_same_memory v kind r rows a a' b b' e f h =
-    subst (λ (l : List ℕ). ReplyIs v kind r rows l b') e (subst (λ (l : List ℕ). ReplyIs v kind r rows a l) f h)
-
 -- data that were written fit their memory
 pub data_fits : (payload before after : List ℕ) → after ≡ payload ++ drop (length payload) before → length after ≡ length before → length payload ≤ length before
 data_fits payload before after e l =
     let n = ap length e ∙ length-append payload (drop (length payload) before) in
     let d = length-drop (length payload) before in
     omega arith
+
+-- a reply at the front of longer memory
+pub at_the_front : (v : Served) (kind : ℕ) (r : Answered) (rows : List RowValues) (n : ℕ) (memory front part : List ℕ) → n ≤ length memory → front ≡ take n memory
+    → length part ≡ length front → ReplyIs v kind r rows front part → ReplyIs v kind r rows memory (part ++ drop n memory)
+at_the_front v kind r rows n memory front part room e long h =
+    let fits = data_fits v.payload front part h.writes_the_data long in
+    let k = length v.payload in
+    record {
+      has_the_head = h.has_the_head;
+      has_the_length = h.has_the_length;
+      writes_the_data =
+          ap (λ l. l ++ drop n memory) h.writes_the_data ∙ append_assoc v.payload (drop k front) (drop n memory)
+          ∙ ap (λ l. v.payload ++ l) (sym (drop-append-le k front (drop n memory) fits) ∙ ap (drop k) (ap (λ l. l ++ drop n memory) e ∙ take-append-drop n memory));
+      leaves_the_responder = h.leaves_the_responder;
+    }
 
 -- a head and the data behind it
 reply_whole : (head payload before middle after : List ℕ) (k : ℕ) → length head ≡ k → after ≡ head ++ drop k middle

@@ -13,11 +13,24 @@ use polls::{SubsystemStatus, subsystem_health, write_entries};
 use register::{Port, Register};
 use wire::{Head, Request};
 
+// The memory for the data of a reply: 255 entries of 16 bytes.
+pub(crate) type Payload = [u8; 4080];
+
 // The head of a reply, how many bytes of data stand behind it, and the Responder's composite flags afterwards.
 #[derive(Clone, Copy)]
 pub(crate) struct Answered {
     pub(crate) head: Head,
     pub(crate) length: usize,
+    pub(crate) composite: ChangedFlags,
+}
+
+// What a request sees at one Responder: the register, the drive's status, the ports in use, and the Responder's composite flags.
+// The Responder's rows stand beside it: the borrow checker covers no call that lends a `&mut` field beside the other references.
+#[derive(Drop)]
+pub(crate) struct Polled<'a, R> {
+    pub(crate) register: &'a R,
+    pub(crate) status: SubsystemStatus,
+    pub(crate) ports: &'a [Port],
     pub(crate) composite: ChangedFlags,
 }
 
@@ -60,31 +73,6 @@ fn largest_id<R: Register>(register: &R) -> u16
     }
 }
 
-// A Controller Health Status Poll.
-fn answer_controller_poll<R: Register>(
-    register: &R,
-    own: &mut [Row],
-    composite: ChangedFlags,
-    poll: ControllerHealthPoll,
-    payload: &mut [u8],
-) -> Answered
-    requires { 4080 ≤ length payload.old }
-    ensures { (kind : ℕ) → ReplyIs (health_poll (polled_drive (R.Register.meaning register.now)) (responder_with kind composite.bits (map row_of own.old)) poll) kind result (map row_of own.new) payload.old payload.new }
-{
-    if largest_id(register) < poll.sctlid {
-        return head_alone(ErrorReply::InvalidParameter { byte: 8 }.into(), composite);
-    }
-    if poll.maxrent == 255 {
-        return head_alone(ErrorReply::InvalidParameter { byte: 10 }.into(), composite);
-    }
-    let found = write_entries(register, own, poll, payload).unwrap();
-    Answered {
-        head: entries_head(found),
-        length: 16 * found,
-        composite,
-    }
-}
-
 // The composite flags, unless they are cleared.
 fn unless_cleared(composite: ChangedFlags, clear_status: bool) -> ChangedFlags
     ensures { result.bits ≡ cond clear_status 0 composite.bits }
@@ -104,81 +92,98 @@ fn write_front(bytes: &[u8], payload: &mut [u8])
     payload[0..bytes.len()].copy_from_slice(bytes);
 }
 
-// An NVM Subsystem Health Status Poll.
-fn answer_subsystem_poll<R: Register>(
-    register: &R,
-    status: SubsystemStatus,
-    ports: &[Port],
-    composite: ChangedFlags,
-    clear_status: bool,
-    payload: &mut [u8],
-) -> Answered
-    requires { 4080 ≤ length payload.old }
-    ensures { (kind : ℕ) (ws : List RowValues) → ReplyIs (by_command (drive_shown (R.Register.meaning register.now) (status_of status) ports.now) (responder_with kind composite.bits ws) (Ok (subsystem_poll clear_status))) kind result ws payload.old payload.new }
-{
-    let bytes = subsystem_health(register, status, ports, composite).to_bytes();
-    write_front(&bytes, payload);
-    Answered {
-        head: success(0),
-        length: 8,
-        composite: unless_cleared(composite, clear_status),
+impl<R: Register> Polled<'_, R> {
+    // A Controller Health Status Poll.
+    fn answer_controller_poll(
+        &self,
+        own: &mut [Row],
+        poll: ControllerHealthPoll,
+        payload: &mut Payload,
+    ) -> Answered
+        ensures { (kind : ℕ) → ReplyIs (health_poll (polled_drive (R.Register.meaning self.now.register.now)) (responder_with kind self.now.composite.bits (map row_of own.old)) poll) kind result (map row_of own.new) payload.old payload.new }
+    {
+        if largest_id(self.register) < poll.sctlid {
+            return head_alone(
+                ErrorReply::InvalidParameter { byte: 8 }.into(),
+                self.composite,
+            );
+        }
+        if poll.maxrent == 255 {
+            return head_alone(
+                ErrorReply::InvalidParameter { byte: 10 }.into(),
+                self.composite,
+            );
+        }
+        let found = write_entries(self.register, own, poll, payload).unwrap();
+        Answered {
+            head: entries_head(found),
+            length: 16 * found,
+            composite: self.composite,
+        }
     }
-}
 
-// One of the four commands.
-fn answer_command<R: Register>(
-    command: HealthCommand,
-    register: &R,
-    own: &mut [Row],
-    composite: ChangedFlags,
-    status: SubsystemStatus,
-    ports: &[Port],
-    payload: &mut [u8],
-) -> Answered
-    requires { 4080 ≤ length payload.old }
-    ensures { (kind : ℕ) → ReplyIs (by_command (drive_shown (R.Register.meaning register.now) (status_of status) ports.now) (responder_with kind composite.bits (map row_of own.old)) (Ok (asked_of command))) kind result (map row_of own.new) payload.old payload.new }
-{
-    match command {
-        HealthCommand::SubsystemHealthStatusPoll { clear_status } => answer_subsystem_poll(
-            register,
-            status,
-            ports,
-            composite,
-            clear_status,
-            payload,
-        ),
-        HealthCommand::ControllerHealthStatusPoll(poll) => answer_controller_poll(
-            register, own, composite, poll, payload,
-        ),
-        HealthCommand::ConfigurationSet { clear } => head_alone(
-            success(0),
-            composite.difference(clear),
-        ),
-        HealthCommand::ConfigurationGet => head_alone(success(0), composite),
+    // An NVM Subsystem Health Status Poll.
+    fn answer_subsystem_poll(&self, clear_status: bool, payload: &mut Payload) -> Answered
+        ensures { (kind : ℕ) (ws : List RowValues) → ReplyIs (by_command (drive_shown (R.Register.meaning self.now.register.now) (status_of self.now.status) self.now.ports.now) (responder_with kind self.now.composite.bits ws) (Ok (subsystem_poll clear_status))) kind result ws payload.old payload.new }
+    {
+        let bytes = subsystem_health(
+            self.register,
+            self.status,
+            self.ports,
+            self.composite,
+        ).to_bytes();
+        write_front(&bytes, payload);
+        Answered {
+            head: success(0),
+            length: 8,
+            composite: unless_cleared(self.composite, clear_status),
+        }
     }
-}
 
-// A request, with the error replies in their order. `own` are the rows of the Responder, `ports` the ports in use.
-pub(crate) fn answer_request<R: Register>(
-    request: Request,
-    register: &R,
-    own: &mut [Row],
-    composite: ChangedFlags,
-    status: SubsystemStatus,
-    ports: &[Port],
-    payload: &mut [u8],
-) -> Answered
-    requires { 4080 ≤ length payload.old }
-    ensures { (kind : ℕ) → ReplyIs (served (drive_shown (R.Register.meaning register.now) (status_of status) ports.now) (responder_with kind composite.bits (map row_of own.old)) request) kind result (map row_of own.new) payload.old payload.new }
-{
-    if request.surplus != 0 {
-        return head_alone(ErrorReply::InvalidCommandSize.into(), composite);
+    // One of the four commands.
+    fn answer_command(
+        &self,
+        own: &mut [Row],
+        command: HealthCommand,
+        payload: &mut Payload,
+    ) -> Answered
+        ensures { (kind : ℕ) → ReplyIs (by_command (drive_shown (R.Register.meaning self.now.register.now) (status_of self.now.status) self.now.ports.now) (responder_with kind self.now.composite.bits (map row_of own.old)) (Ok (asked_of command))) kind result (map row_of own.new) payload.old payload.new }
+    {
+        match command {
+            HealthCommand::SubsystemHealthStatusPoll { clear_status } => {
+                self.answer_subsystem_poll(clear_status, payload)
+            }
+            HealthCommand::ControllerHealthStatusPoll(poll) => {
+                self.answer_controller_poll(own, poll, payload)
+            }
+            HealthCommand::ConfigurationSet { clear } => {
+                head_alone(success(0), self.composite.difference(clear))
+            }
+            HealthCommand::ConfigurationGet => head_alone(success(0), self.composite),
+        }
     }
-    if request.meb {
-        return head_alone(ErrorReply::InvalidParameter { byte: 2 }.into(), composite);
-    }
-    match HealthCommand::try_from(request.command) {
-        Ok(command) => answer_command(command, register, own, composite, status, ports, payload),
-        Err(error) => head_alone(error.into(), composite),
+
+    // A request, with the error replies in their order. `own` are the rows of the Responder.
+    pub(crate) fn answer_request(
+        &self,
+        own: &mut [Row],
+        request: Request,
+        payload: &mut Payload,
+    ) -> Answered
+        ensures { (kind : ℕ) → ReplyIs (served (drive_shown (R.Register.meaning self.now.register.now) (status_of self.now.status) self.now.ports.now) (responder_with kind self.now.composite.bits (map row_of own.old)) request) kind result (map row_of own.new) payload.old payload.new }
+    {
+        if request.surplus != 0 {
+            return head_alone(ErrorReply::InvalidCommandSize.into(), self.composite);
+        }
+        if request.meb {
+            return head_alone(
+                ErrorReply::InvalidParameter { byte: 2 }.into(),
+                self.composite,
+            );
+        }
+        match HealthCommand::try_from(request.command) {
+            Ok(command) => self.answer_command(own, command, payload),
+            Err(error) => head_alone(error.into(), self.composite),
+        }
     }
 }

@@ -6,13 +6,54 @@ ghost use Rattle.subsystem.specs.Faults.{in_numbers};
 
 use crate::fault::Fault;
 use register::Register;
+use std::ops::Range;
 
-// One row for each Responder and controller.
-pub(crate) fn rows_needed<R: Register>(register: &R, responders: usize) -> usize
-    requires { responders ≤ 8 }
-    ensures { result ≡ responders * length (R.Register.meaning register.now).controllers }
-{
-    responders * register.len()
+// Where rows stand in lent memory: one for each Responder and controller, those of the first Responder first.
+#[derive(Clone, Copy)]
+pub(crate) struct Layout {
+    pub(crate) responders: usize,
+    pub(crate) controllers: usize,
+    ghost counted_in_64_bits: { responders * controllers < 2 ^ 64 },
+}
+
+impl Layout {
+    // Of the rows of so many Responders, for each controller of a register.
+    pub(crate) fn of<R: Register>(register: &R, responders: usize) -> Self
+        requires { responders ≤ 8 }
+        ensures for_the_responders { result.responders ≡ responders }
+        ensures for_the_controllers { result.controllers ≡ length (R.Register.meaning register.now).controllers }
+    {
+        Layout {
+            responders,
+            controllers: register.len(),
+        }
+    }
+
+    // How many rows there are.
+    pub(crate) fn needed(self) -> usize
+        ensures { result ≡ self.responders * self.controllers }
+    {
+        self.responders * self.controllers
+    }
+
+    // The place of a Responder's row for the controller at a place.
+    pub(crate) fn index(self, responder: usize, place: usize) -> usize
+        requires a_responder { responder < self.responders }
+        requires a_place { place < self.controllers }
+        ensures { result ≡ responder * self.controllers + place }
+    {
+        responder * self.controllers + place
+    }
+
+    // The places of a Responder's rows.
+    pub(crate) fn rows_of(self, responder: usize) -> Range<usize>
+        requires { responder < self.responders }
+        ensures begins { result.start ≡ responder * self.controllers }
+        ensures ends { result.end ≡ responder * self.controllers + self.controllers }
+    {
+        let first = responder * self.controllers;
+        first..first + self.controllers
+    }
 }
 
 // Refuses rows or port memory that are shorter than needed.
@@ -23,20 +64,4 @@ pub(crate) fn check_length(length: usize, needed: usize) -> Result<(), Fault>
         return Err(Fault::MemoryTooShort { needed });
     }
     Ok(())
-}
-
-// The place of a Responder's row for the controller at a place, in rows for each Responder and controller.
-pub(crate) fn row_index(responder: usize, controllers: usize, place: usize) -> usize
-    requires { responder * controllers + place < 2 ^ 64 }
-    ensures { result ≡ responder * controllers + place }
-{
-    responder * controllers + place
-}
-
-// The place of a Responder's first row.
-pub(crate) fn first_row(responder: usize, controllers: usize) -> usize
-    requires { responder * controllers < 2 ^ 64 }
-    ensures { result ≡ responder * controllers }
-{
-    row_index(responder, controllers, 0)
 }

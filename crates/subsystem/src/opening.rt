@@ -10,7 +10,7 @@ ghost use Rattle.subsystem.specs.Responders.{responder_of, no_composite};
 
 use crate::builder::SubsystemBuilder;
 use crate::fault::Fault;
-use crate::memory::{check_length, rows_needed};
+use crate::memory::{Layout, check_length};
 use crate::responder::Responder;
 use health::Row;
 use polls::{SubsystemStatus, clear_rows};
@@ -47,7 +47,7 @@ pub(crate) fn clear_for_opening<R: Register>(
     if nothing_to_open(builder.responder_count, register.len()) {
         return Err(Fault::NothingToOpen);
     }
-    let needed = rows_needed(register, builder.responder_count);
+    let needed = Layout::of(register, builder.responder_count).needed();
     check_length(rows.len(), needed)?;
     clear_rows(&mut rows[0..needed]);
     Ok(())

@@ -5,35 +5,38 @@ ghost use Rattle.polls.specs.Shown.{status_of};
 ghost use Rattle.model.specs.Requests.{served};
 ghost use Rattle.subsystem.specs.Replies.{ReplyIs, drive_shown, responder_with};
 
-use crate::answer::{Answered, answer_request};
-use health::{ChangedFlags, Row};
-use polls::SubsystemStatus;
-use register::{Port, Register};
+use crate::answer::{Answered, Polled};
+use health::Row;
+use register::Register;
 use wire::{Carrier, Request};
 
-// Answers a request, with the data behind a head of this length.
-pub(crate) fn answer_behind_head<R: Register>(
-    asked: Request,
-    register: &R,
-    own: &mut [Row],
-    composite: ChangedFlags,
-    status: SubsystemStatus,
-    ports: &[Port],
-    head: usize,
-    reply: &mut [u8],
-) -> Answered
-    requires { head + 4080 ≤ length reply.old }
-    ensures { (kind : ℕ) → ReplyIs (served (drive_shown (R.Register.meaning register.now) (status_of status) ports.now) (responder_with kind composite.bits (map row_of own.old)) asked) kind result (map row_of own.new) (drop head reply.old) (drop head reply.new) }
-{
-    answer_request(
-        asked,
-        register,
-        own,
-        composite,
-        status,
-        ports,
-        &mut reply[head..],
-    )
+impl<R: Register> Polled<'_, R> {
+    // Answers a request, with the data at the front of the memory.
+    fn answer_in(&self, own: &mut [Row], asked: Request, memory: &mut [u8]) -> Answered
+        requires { 4080 ≤ length memory.old }
+        ensures { (kind : ℕ) → ReplyIs (served (drive_shown (R.Register.meaning self.now.register.now) (status_of self.now.status) self.now.ports.now) (responder_with kind self.now.composite.bits (map row_of own.old)) asked) kind result (map row_of own.new) memory.old memory.new }
+    {
+        let Some(payload) = memory.first_chunk_mut() else {
+            unreachable()
+        };
+        let answered = self.answer_request(own, asked, payload);
+        prove!(payload.len() == 4080);
+        answered
+    }
+
+    // Answers a request, with the data behind a head of this length.
+    pub(crate) fn answer_behind_head(
+        &self,
+        own: &mut [Row],
+        asked: Request,
+        head: usize,
+        reply: &mut [u8],
+    ) -> Answered
+        requires { head + 4080 ≤ length reply.old }
+        ensures { (kind : ℕ) → ReplyIs (served (drive_shown (R.Register.meaning self.now.register.now) (status_of self.now.status) self.now.ports.now) (responder_with kind self.now.composite.bits (map row_of own.old)) asked) kind result (map row_of own.new) (drop head reply.old) (drop head reply.new) }
+    {
+        self.answer_in(own, asked, &mut reply[head..])
+    }
 }
 
 // Writes the head before data that stand in their place, and answers the length of the reply.

@@ -6,9 +6,9 @@ ghost use Rattle.subsystem.specs.Faults.{in_numbers};
 ghost use Rattle.subsystem.specs.States.{state_of};
 
 use crate::fault::Fault;
-use crate::memory::{check_length, first_row, rows_needed};
+use crate::memory::{Layout, check_length};
 use crate::service::Subsystem;
-use health::Row;
+use health::{ChangedFlags, Row};
 use polls::clear_rows;
 use register::Register;
 
@@ -27,11 +27,10 @@ impl Subsystem {
         if r >= self.responder_count {
             return Err(Fault::NoSuchResponder { responder });
         }
-        check_length(rows.len(), rows_needed(register, self.responder_count))?;
-        let controllers = register.len();
-        let first = first_row(r, controllers);
-        clear_rows(&mut rows[first..first + controllers]);
-        self.responders[r] = self.responders[r].without_composite();
+        let layout = Layout::of(register, self.responder_count);
+        check_length(rows.len(), layout.needed())?;
+        clear_rows(&mut rows[layout.rows_of(r)]);
+        self.responders[r].composite = ChangedFlags::none();
         Ok(())
     }
 }

@@ -20,21 +20,4 @@ impl Responder {
             composite: ChangedFlags::none(),
         }
     }
-
-    // The same Responder with no composite flag set.
-    pub(crate) fn without_composite(self) -> Self
-        ensures { responder_of result ≡ no_composite self.kind }
-    {
-        Responder::new(self.kind)
-    }
-
-    // The same Responder with other composite flags.
-    pub(crate) fn with_composite(self, composite: ChangedFlags) -> Self
-        ensures { responder_of result ≡ record { kind = self.kind; composite = composite.bits } }
-    {
-        Responder {
-            kind: self.kind,
-            composite,
-        }
-    }
 }

@@ -9,10 +9,11 @@ ghost use Rattle.subsystem.specs.States.{state_of, responders_of};
 ghost use Rattle.subsystem.specs.Replies.{exchanged, Responds};
 ghost use Rattle.subsystem.specs.Admission.{admission};
 
+use crate::answer::Polled;
 use crate::fault::Fault;
 use crate::lent::Lent;
-use crate::memory::{check_length, first_row, rows_needed};
-use crate::reply::{answer_behind_head, write_head_before};
+use crate::memory::{Layout, check_length};
+use crate::reply::write_head_before;
 use crate::service::Subsystem;
 use health::Row;
 use register::{Port, Register};
@@ -65,21 +66,15 @@ impl Subsystem {
         ensures { (rest : List Row) (more : List Port) (x : Responder) → responder_at (state_of self.old (R.Register.meaning register.now) (rows.old ++ rest) (ports.now ++ more)) responder ≡ Some x → Responds C.Carrier.meaning (state_of self.old (R.Register.meaning register.now) (rows.old ++ rest) (ports.now ++ more)) responder x asked result reply.old reply.new (state_of self.new (R.Register.meaning register.now) (rows.new ++ rest) (ports.now ++ more)) }
     {
         let Lengths { head, .. } = C::lengths();
-        let controllers = register.len();
-        let first = first_row(responder, controllers);
-        let port_count = self.port_count;
-        let own = self.responders[responder];
-        let answered = answer_behind_head(
-            asked,
+        let polled = Polled {
             register,
-            &mut rows[first..first + controllers],
-            own.composite,
-            self.status,
-            &ports[0..port_count],
-            head,
-            reply,
-        );
-        self.responders[responder] = own.with_composite(answered.composite);
+            status: self.status,
+            ports: &ports[0..self.port_count],
+            composite: self.responders[responder].composite,
+        };
+        let own = &mut rows[Layout::of(register, self.responder_count).rows_of(responder)];
+        let answered = polled.answer_behind_head(own, asked, head, reply);
+        self.responders[responder].composite = answered.composite;
         write_head_before::<C>(asked, answered, reply)
     }
 
@@ -97,7 +92,7 @@ impl Subsystem {
         ensures a_refusal_changes_nothing { is_ok result ≡ false → (self.new ≡ self.old) × (rows.new ≡ rows.old) × (reply.new ≡ reply.old) }
     {
         let lent = Lent {
-            rows_needed: rows_needed(register, self.responder_count),
+            rows_needed: Layout::of(register, self.responder_count).needed(),
             rows: rows.len(),
             ports: ports.len(),
             reply: reply.len(),

@@ -1,15 +1,12 @@
-use Rattle.std.proofs.Common.{Err, sym, ap, ◌∙◌, arith}
+use Rattle.std.proofs.Common.{Err, sym, ap, ◌∙◌}
 use Rattle.std.proofs.lemmas.Result.{err_from_is_err_and}
 use Rattle.model.specs.ServiceRefusals.{responder_of_another_kind}
 use Rattle.subsystem.specs.Faults.{in_numbers, fault_refusal}
 use Rattle.subsystem.specs.States.{responders_of}
 use Rattle.subsystem.specs.Admission.{admission}
 use Rattle.subsystem.proofs.Checks.{test_passed}
-use Rattle.subsystem.proofs.Admitting.{absent, another_kind, rows_short, ports_short, last_test}
+use Rattle.subsystem.proofs.Admitting.{another_kind, rows_short, ports_short, last_test}
 use Rattle.subsystem.proofs.service.Subsystem.admit.Goals as goal
-
-pub returns-then-r-self : goal.returns-then-r-self
-returns-then-r-self c = absent c.args.self.now c.args.responder c.args.lengths c.args.lent (omega (arith, c.from-r.ensures))
 
 pub returns-then-self-r : goal.returns-then-self-r
 returns-then-self-r c =

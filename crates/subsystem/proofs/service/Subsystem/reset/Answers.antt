@@ -1,4 +1,4 @@
-use Rattle.std.proofs.Common.{◌≡◌, ℕ, ◌+◌, ◌-◌, ◌*◌, ◌≤◌, ◌++◌, map, length, get_or, replicate, Ok, Err, sym, refl, ap, ◌∙◌, subst, arith, rules}
+use Rattle.std.proofs.Common.{◌≡◌, ◌-◌, ◌*◌, ◌++◌, map, length, get_or, replicate, Ok, Err, sym, ap, ◌∙◌, arith}
 use Rattle.std.proofs.lemmas.Result.{err_from_is_err_and}
 use Rattle.std.proofs.lemmas.Bool.{ltb-false}
 use Rattle.health.specs.Rows.{row_of, clear_row}
@@ -7,6 +7,7 @@ use Rattle.model.specs.State.{with_responders}
 use Rattle.model.specs.Calls.{reset, accepted, judged, reset_responder, Step, step}
 use Rattle.subsystem.specs.Faults.{in_numbers, fault_refusal}
 use Rattle.subsystem.specs.Responders.{responder_of}
+use Rattle.subsystem.specs.declared.responder.Responder.{Responder}
 use Rattle.subsystem.specs.States.{with_its_rows, state_of}
 use Rattle.subsystem.proofs.Checks.{test_passed, by_needed}
 use Rattle.subsystem.proofs.OneResponder.{same_change, responder_there, responder_exists, responder_absent, responder_replaced, length_lent, own_rows_length}
@@ -14,75 +15,56 @@ use Rattle.subsystem.proofs.Resetting.{reset_taken, reset_absent, reset_tested, 
 use Rattle.subsystem.proofs.RowGroups.{own_rows_lent}
 use Rattle.subsystem.proofs.service.Subsystem.reset.Goals as goal
 
-pub returns-then-r-self : goal.returns-then-r-self
-returns-then-r-self g c =
+pub returns-then-r-self-clause-is_answered_and_done_as_the_model_says : goal.returns-then-r-self-clause-is_answered_and_done_as_the_model_says
+returns-then-r-self-clause-is_answered_and_done_as_the_model_says g c =
     let x = c.args.self.now in
     let m = g.R.Register.meaning c.args.register.now in
     let rows = c.args.rows.now in
-    record {
-      is_answered_and_done_as_the_model_says = λ rest ports.
-          let s = state_of x m (rows ++ rest) ports in
-          reset_taken s c.args.responder (length rows) (Err (no_such_responder c.args.responder))
-          (reset_absent x m (rows ++ rest) ports c.args.responder (length rows) (responder_absent x m (rows ++ rest) ports c.args.responder (omega (arith, c.from-r.ensures))));
-      a_refusal_changes_nothing = λ _. (refl, refl);
-    }
+    λ rest ports.
+    let s = state_of x m (rows ++ rest) ports in
+    reset_taken s c.args.responder (length rows) (Err (no_such_responder c.args.responder))
+    (reset_absent x m (rows ++ rest) ports c.args.responder (length rows) (responder_absent x m (rows ++ rest) ports c.args.responder (omega (arith, c.from-r.ensures))))
 
-pub returns-in_err-check_length : goal.returns-in_err-check_length
-returns-in_err-check_length g c =
+pub returns-in_err-check_length-clause-is_answered_and_done_as_the_model_says : goal.returns-in_err-check_length-clause-is_answered_and_done_as_the_model_says
+returns-in_err-check_length-clause-is_answered_and_done_as_the_model_says g c =
     let x = c.args.self.now in
     let m = g.R.Register.meaning c.args.register.now in
     let rows = c.args.rows.now in
     let f = c.in_err-check_length.field-0.0 in
     let p = err_from_is_err_and c.from_residual.result c.from_residual.ensures.1 in
     let same : c.from_residual.result ≡ Err f = p.1 ∙ ap Err p.2 in
-    record {
-      is_answered_and_done_as_the_model_says = λ rest ports.
-          let s = state_of x m (rows ++ rest) ports in
-          ap {B = Step} (λ r. record { answer = judged (in_numbers r); state = s }) same
-          ∙ reset_taken s c.args.responder (length rows) (Err (fault_refusal f))
-          (let y = responder_exists x m (rows ++ rest) ports c.args.responder (omega (arith, c.from-r.ensures)) in
-          reset_tested x m (rows ++ rest) ports c.args.responder (length rows) y.0 y.1 (Err (fault_refusal f))
-          (by_needed (length rows) _ _ (Err (fault_refusal f)) c.rows_needed.ensures c.in_err-check_length.ensures));
-      a_refusal_changes_nothing = λ _. (refl, refl);
-    }
+    λ rest ports.
+    let s = state_of x m (rows ++ rest) ports in
+    ap {B = Step} (λ r. record { answer = judged (in_numbers r); state = s }) same
+    ∙ reset_taken s c.args.responder (length rows) (Err (fault_refusal f))
+    (let y = responder_exists x m (rows ++ rest) ports c.args.responder (omega (arith, c.from-r.ensures)) in
+    reset_tested x m (rows ++ rest) ports c.args.responder (length rows) y.0 y.1 (Err (fault_refusal f))
+    (by_needed (length rows) _ _ (Err (fault_refusal f)) (c.needed.ensures ∙ (λ i. c.of-layout.ensures.for_the_responders i * c.of-layout.ensures.for_the_controllers i)) c.in_err-check_length.ensures))
 
-pub offset_bounds-rows-first : goal.offset_bounds-rows-first
-offset_bounds-rows-first g c =
-    let n : c.rows_needed.result ≡ c.args.self.now.responder_count * c.len-controllers.result = c.rows_needed.ensures ∙ ap (λ v. c.args.self.now.responder_count * v) (sym c.len-controllers.ensures) in
-    let h = own_rows_lent _ _ _ _ _ c.if-r-self.false c.first_row-first.ensures (subst (λ (v : ℕ). v ≤ length c.args.rows.now) n (ltb-false _ _ (test_passed _ _ c.in_ok-check_length.ensures))) in
-    search rules
-
-pub slice_bounds-clear_rows-end : goal.slice_bounds-clear_rows-end
-slice_bounds-clear_rows-end g c =
-    let n : c.rows_needed.result ≡ c.args.self.now.responder_count * c.len-controllers.result = c.rows_needed.ensures ∙ ap (λ v. c.args.self.now.responder_count * v) (sym c.len-controllers.ensures) in
-    let h = own_rows_lent _ _ _ _ _ c.if-r-self.false c.first_row-first.ensures (subst (λ (v : ℕ). v ≤ length c.args.rows.now) n (ltb-false _ _ (test_passed _ _ c.in_ok-check_length.ensures))) in
-    omega arith
-
-pub returns : goal.returns
-returns g c =
+pub returns-clause-is_answered_and_done_as_the_model_says : goal.returns-clause-is_answered_and_done_as_the_model_says
+returns-clause-is_answered_and_done_as_the_model_says g c =
     let x = c.args.self.now in
     let m = g.R.Register.meaning c.args.register.now in
     let rows = c.args.rows.now in
     let r = c.from-r.result in
-    let k = c.first_row-first.result in
-    let n = k + c.len-controllers.result - k in
+    let k = c.rows_of.result.start in
+    let n = c.rows_of.result.end - k in
     let part = c.clear_rows.new.rows in
     let old = c.index-self-r.result in
-    let en : n ≡ length m.controllers = omega (arith, c.len-controllers.ensures) in
-    let ek : k ≡ r * length m.controllers = c.first_row-first.ensures ∙ ap (λ v. r * v) c.len-controllers.ensures in
-    let tested = by_needed (length rows) _ _ (Ok tt) c.rows_needed.ensures c.in_ok-check_length.ensures in
+    let kind = (get_or x.responders r old).kind in
+    let new : Responder = record { kind = kind; composite = c.none.result } in
+    let en : n ≡ length m.controllers = omega (arith, c.rows_of.ensures.begins, c.rows_of.ensures.ends, c.of-layout.ensures.for_the_controllers) in
+    let ek : k ≡ r * length m.controllers = c.rows_of.ensures.begins ∙ ap (λ v. r * v) c.of-layout.ensures.for_the_controllers in
+    let tested = by_needed (length rows) _ _ (Ok tt) (c.needed.ensures ∙ (λ i. c.of-layout.ensures.for_the_responders i * c.of-layout.ensures.for_the_controllers i)) c.in_ok-check_length.ensures in
     let room = ltb-false _ _ (test_passed _ _ tested) in
     let within = own_rows_lent r x.responder_count (length m.controllers) k (length rows) c.if-r-self.false ek room in
     let long : length part ≡ length m.controllers = length_lent k (length m.controllers) n rows part en within c.clear_rows.auto.rows in
     let cleared = c.clear_rows.ensures ∙ ap (λ v. replicate v clear_row) (sym c.clear_rows.auto.rows ∙ long) in
-    record {
-      is_answered_and_done_as_the_model_says = λ rest ports.
-          let s = state_of x m (rows ++ rest) ports in
-          ap {B = Step} (λ v. record { answer = accepted; state = v }) (responder_replaced x m rows part rest ports r k n c.without_composite.result c.if-r-self.false ek en room long
-          ∙ ap (with_responders s) (same_change s.responders r _ (λ _. with_its_rows (responder_of c.without_composite.result) (map row_of part)) reset_responder (responder_there x m (rows ++ rest) ports r old c.if-r-self.false)
-          (is_reset (responder_of c.without_composite.result) (responder_of (get_or x.responders r old)) (map row_of part) _ (length m.controllers) c.without_composite.ensures cleared
-          (own_rows_length (length m.controllers) r k rows rest ek within))))
-          ∙ reset_taken s r (length rows) (Ok tt) (let y = responder_exists x m (rows ++ rest) ports r c.if-r-self.false in reset_tested x m (rows ++ rest) ports r (length rows) y.0 y.1 (Ok tt) tested)
-          ∙ ap (λ v. step s (reset v (length rows))) c.from-r.ensures;
-      a_refusal_changes_nothing = search rules;
-    }
+    λ rest ports.
+    let s = state_of x m (rows ++ rest) ports in
+    ap {B = Step} (λ v. record { answer = accepted; state = v }) (responder_replaced x m rows part rest ports r k n new c.if-r-self.false ek en room long
+    ∙ ap (with_responders s) (same_change s.responders r _ (λ _. with_its_rows (responder_of new) (map row_of part)) reset_responder (responder_there x m (rows ++ rest) ports r old c.if-r-self.false)
+    (is_reset (responder_of new) (responder_of (get_or x.responders r old)) (map row_of part) _ (length m.controllers) (ap (λ v. record { kind = kind; composite = v }) c.none.ensures) cleared
+    (own_rows_length (length m.controllers) r k rows rest ek within))))
+    ∙ reset_taken s r (length rows) (Ok tt) (let y = responder_exists x m (rows ++ rest) ports r c.if-r-self.false in reset_tested x m (rows ++ rest) ports r (length rows) y.0 y.1 (Ok tt) tested)
+    ∙ ap (λ v. step s (reset v (length rows))) c.from-r.ensures

@@ -1,29 +1,19 @@
-use Rattle.std.proofs.Common.{◌≡◌, ℕ, ◌+◌, ◌-◌, ◌*◌, ◌≤◌, ◌++◌, map, length, get_or, drop, sym, refl, ap, ◌∙◌, subst, arith, rules}
+use Rattle.std.proofs.Common.{◌≡◌, ℕ, ◌-◌, ◌*◌, ◌<◌, ◌++◌, map, length, get_or, drop, sym, refl, ap, ◌∙◌, subst, arith}
 use borrow.Rule.Slice.PartMut.{mid_of}
-use Rattle.std.proofs.lemmas.List.{length-drop}
+use Rattle.std.proofs.lemmas.List.{length-drop, get_or_default}
 use Rattle.health.specs.Rows.{row_of}
 use Rattle.polls.specs.Shown.{status_of}
 use Rattle.model.specs.State.{with_responders}
 use Rattle.model.specs.Requests.{served}
 use Rattle.model.specs.Calls.{at_place}
+use Rattle.subsystem.specs.Responders.{responder_of}
+use Rattle.subsystem.specs.declared.responder.Responder.{Responder}
 use Rattle.subsystem.specs.States.{with_its_rows, state_of}
 use Rattle.subsystem.specs.Replies.{ReplyIs, drive_shown, responder_with}
 use Rattle.subsystem.proofs.RowGroups.{own_rows_lent}
 use Rattle.subsystem.proofs.OneResponder.{responder_there, responder_replaced, length_lent}
 use Rattle.subsystem.proofs.Responding.{same_served, data_fits, responds, ports_shown, own_rows_are}
 use Rattle.subsystem.proofs.service.Subsystem.respond.Goals as goal
-
-pub offset_bounds-rows-first : goal.offset_bounds-rows-first
-offset_bounds-rows-first g c =
-    let room = subst (λ (v : ℕ). c.args.self.now.responder_count * v ≤ length c.args.rows.now) (sym c.len-controllers.ensures) c.requires.rows_for_all in
-    let h = own_rows_lent _ _ _ _ _ c.requires.a_responder_in_use c.first_row-first.ensures room in
-    search rules
-
-pub slice_bounds-answer_behind_head-end : goal.slice_bounds-answer_behind_head-end
-slice_bounds-answer_behind_head-end g c =
-    let room = subst (λ (v : ℕ). c.args.self.now.responder_count * v ≤ length c.args.rows.now) (sym c.len-controllers.ensures) c.requires.rows_for_all in
-    let h = own_rows_lent _ _ _ _ _ c.requires.a_responder_in_use c.first_row-first.ensures room in
-    omega arith
 
 pub write_head_before-requires : goal.write_head_before-requires
 write_head_before-requires g c =
@@ -50,14 +40,16 @@ returns g c = λ rest more x there.
     let s = state_of self m (rows ++ rest) (ports ++ more) in
     let r = c.args.responder in
     let n = length m.controllers in
-    let first = c.first_row-first.result in
-    let count = first + c.len-controllers.result - first in
+    let first = c.rows_of.result.start in
+    let count = c.rows_of.result.end - first in
     let old = get_or self.responders r c.index-self-responder.result in
     let answered = c.answer_behind_head-answered.result in
     let part = c.answer_behind_head-answered.new.own in
+    let with_flags : Responder → Responder = λ y. record { kind = y.kind; composite = answered.composite } in
+    let stands : r < length self.responders = let l = self.at_most_8_responders in let e = self.eight_responders in let u = c.requires.a_responder_in_use in omega arith in
     let kind = old.kind in
-    let en : count ≡ n = omega (arith, c.len-controllers.ensures) in
-    let ek : first ≡ r * n = c.first_row-first.ensures ∙ ap (λ v. r * v) c.len-controllers.ensures in
+    let en : count ≡ n = omega (arith, c.rows_of.ensures.begins, c.rows_of.ensures.ends, c.of.ensures.for_the_controllers) in
+    let ek : first ≡ r * n = c.rows_of.ensures.begins ∙ ap (λ v. r * v) c.of.ensures.for_the_controllers in
     let within = own_rows_lent r self.responder_count n first (length rows) c.requires.a_responder_in_use ek c.requires.rows_for_all in
     let lent = map row_of (mid_of first count rows) in
     let used = mid_of 0 (self.port_count - 0) ports in
@@ -75,5 +67,5 @@ returns g c = λ rest more x there.
     let long = length_lent first n count rows part en within c.answer_behind_head-answered.auto.own in
     responds k s r x c.args.asked v answered kind (map row_of part) _ c.args.reply.now c.answer_behind_head-answered.new.reply c.write_head_before.new.reply _ same is
     c.write_head_before.ensures.answers_the_length c.write_head_before.ensures.writes_the_head
-    (responder_replaced self m rows part rest (ports ++ more) r first count c.with_composite.result c.requires.a_responder_in_use ek en c.requires.rows_for_all long
-    ∙ ap (λ h. with_responders s (at_place s.responders r (λ _. with_its_rows h (map row_of part)))) c.with_composite.ensures)
+    (responder_replaced self m rows part rest (ports ++ more) r first count (with_flags (get_or self.responders r c.index-self-responder-2.result)) c.requires.a_responder_in_use ek en c.requires.rows_for_all long
+    ∙ ap (λ y. with_responders s (at_place s.responders r (λ _. with_its_rows (responder_of (with_flags y)) (map row_of part)))) (get_or_default self.responders r _ _ stands))

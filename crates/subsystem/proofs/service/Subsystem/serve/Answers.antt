@@ -1,6 +1,5 @@
-use Rattle.std.proofs.Common.{◌≡◌, ℕ, ◌+◌, ◌≤◌, ◌++◌, length, Ok, Err, sym, refl, ap, ◌∙◌, subst, arith, rules}
+use Rattle.std.proofs.Common.{◌≡◌, ◌*◌, ◌++◌, length, Ok, Err, sym, ap, ◌∙◌, arith}
 use Rattle.std.proofs.lemmas.Result.{err_from_is_err_and}
-use Rattle.std.proofs.lemmas.Bool.{ltb-false}
 use Rattle.wire.specs.Refusals.{refusal}
 use Rattle.wire.specs.Meaning.{lengths_of}
 use Rattle.model.specs.Requests.{reply_to}
@@ -16,37 +15,34 @@ use Rattle.subsystem.proofs.Reporting.{in_use}
 use Rattle.subsystem.proofs.Requesting.{request_refused, request_granted, own, own_there, admitted_then, not_admitted}
 use Rattle.subsystem.proofs.service.Subsystem.serve.Goals as goal
 
-pub returns-in_err-admit : goal.returns-in_err-admit
-returns-in_err-admit g c =
+pub returns-in_err-admit-clause-is_answered_and_done_as_the_model_says : goal.returns-in_err-admit-clause-is_answered_and_done_as_the_model_says
+returns-in_err-admit-clause-is_answered_and_done_as_the_model_says g c =
     let x = c.args.self.now in
     let m = g.R.Register.meaning c.args.register.now in
     let k = g.C.Carrier.meaning in
     let rows = c.args.rows.now in
     let ports = c.args.ports.now in
     let reply = c.args.reply.now in
-    let lent : Lent = record { rows_needed = c.rows_needed.result; rows = length rows; ports = length ports; reply = length reply } in
+    let lent : Lent = record { rows_needed = c.needed.result; rows = length rows; ports = length ports; reply = length reply } in
     let f = c.in_err-admit.field-0.0 in
     let p = err_from_is_err_and c.from_residual.result c.from_residual.ensures.1 in
     let same : c.from_residual.result ≡ Err f = p.1 ∙ ap Err p.2 in
     let tested = c.in_err-admit.ensures ∙ ap (λ l. admission (responders_of x) x.port_count c.args.responder l lent) c.lengths.ensures in
-    record {
-      is_answered_and_done_as_the_model_says = λ rest more.
-          let s = state_of x m (rows ++ rest) (ports ++ more) in
-          ap {B = Exchange} (λ r. record { answer = in_numbers r; reply = reply; state = s }) same
-          ∙ request_refused s c.args.responder k (length rows) (length ports) c.args.message.now (length reply) reply (fault_refusal f)
-          (not_admitted x m (rows ++ rest) (ports ++ more) c.args.responder k c.args.message.now lent c.rows_needed.ensures (fault_refusal f) tested);
-      a_refusal_changes_nothing = λ _. (refl, refl, refl);
-    }
+    λ rest more.
+    let s = state_of x m (rows ++ rest) (ports ++ more) in
+    ap {B = Exchange} (λ r. record { answer = in_numbers r; reply = reply; state = s }) same
+    ∙ request_refused s c.args.responder k (length rows) (length ports) c.args.message.now (length reply) reply (fault_refusal f)
+    (not_admitted x m (rows ++ rest) (ports ++ more) c.args.responder k c.args.message.now lent (c.needed.ensures ∙ (λ i. c.of.ensures.for_the_responders i * c.of.ensures.for_the_controllers i)) (fault_refusal f) tested)
 
-pub returns-in_err-asked : goal.returns-in_err-asked
-returns-in_err-asked g c =
+pub returns-in_err-asked-clause-is_answered_and_done_as_the_model_says : goal.returns-in_err-asked-clause-is_answered_and_done_as_the_model_says
+returns-in_err-asked-clause-is_answered_and_done_as_the_model_says g c =
     let x = c.args.self.now in
     let m = g.R.Register.meaning c.args.register.now in
     let k = g.C.Carrier.meaning in
     let rows = c.args.rows.now in
     let ports = c.args.ports.now in
     let reply = c.args.reply.now in
-    let lent : Lent = record { rows_needed = c.rows_needed.result; rows = length rows; ports = length ports; reply = length reply } in
+    let lent : Lent = record { rows_needed = c.needed.result; rows = length rows; ports = length ports; reply = length reply } in
     let f = c.in_err-asked.field-0.0 in
     let p = err_from_is_err_and c.from_residual-in_err-asked.result c.from_residual-in_err-asked.ensures.1 in
     let same : in_numbers c.from_residual-in_err-asked.result ≡ Err (refusal f) = ap in_numbers (p.1 ∙ ap Err p.2) in
@@ -54,37 +50,29 @@ returns-in_err-asked g c =
     c.in_ok-admit.ensures ∙ ap (λ l. admission (responders_of x) x.port_count c.args.responder l lent) c.lengths.ensures in
     let a = admitted (responders_of x) x.port_count c.args.responder (lengths_of k) lent tested in
     let read : Err (refusal f) ≡ k.read_request c.args.message.now = c.in_err-asked.ensures in
-    record {
-      is_answered_and_done_as_the_model_says = λ rest more.
-          let s = state_of x m (rows ++ rest) (ports ++ more) in
-          ap {B = Exchange} (λ r. record { answer = r; reply = reply; state = s }) same
-          ∙ request_refused s c.args.responder k (length rows) (length ports) c.args.message.now (length reply) reply (refusal f)
-          (admitted_then x m (rows ++ rest) (ports ++ more) c.args.responder k c.args.message.now lent c.rows_needed.ensures a.responder a.there tested
-          ∙ ap (reply_to s.drive (own x m (rows ++ rest) (ports ++ more) c.args.responder k c.args.message.now lent c.rows_needed.ensures a.responder a.there) k) (sym read));
-      a_refusal_changes_nothing = λ _. (refl, refl, refl);
-    }
+    λ rest more.
+    let s = state_of x m (rows ++ rest) (ports ++ more) in
+    ap {B = Exchange} (λ r. record { answer = r; reply = reply; state = s }) same
+    ∙ request_refused s c.args.responder k (length rows) (length ports) c.args.message.now (length reply) reply (refusal f)
+    (admitted_then x m (rows ++ rest) (ports ++ more) c.args.responder k c.args.message.now lent (c.needed.ensures ∙ (λ i. c.of.ensures.for_the_responders i * c.of.ensures.for_the_controllers i)) a.responder a.there tested
+    ∙ ap (reply_to s.drive (own x m (rows ++ rest) (ports ++ more) c.args.responder k c.args.message.now lent (c.needed.ensures ∙ (λ i. c.of.ensures.for_the_responders i * c.of.ensures.for_the_controllers i)) a.responder a.there) k) (sym read))
 
-pub respond-requires : goal.respond-requires
-respond-requires g c =
+pub respond-requires-clause-a_responder_in_use : goal.respond-requires-clause-a_responder_in_use
+respond-requires-clause-a_responder_in_use g c =
     let x = c.args.self.now in
     let k = g.C.Carrier.meaning in
     let rows = c.args.rows.now in
     let ports = c.args.ports.now in
     let reply = c.args.reply.now in
-    let lent : Lent = record { rows_needed = c.rows_needed.result; rows = length rows; ports = length ports; reply = length reply } in
+    let lent : Lent = record { rows_needed = c.needed.result; rows = length rows; ports = length ports; reply = length reply } in
     let tested : Ok tt ≡ admission (responders_of x) x.port_count c.args.responder (lengths_of k) lent =
     c.in_ok-admit.ensures ∙ ap (λ l. admission (responders_of x) x.port_count c.args.responder l lent) c.lengths.ensures in
     let a = admitted (responders_of x) x.port_count c.args.responder (lengths_of k) lent tested in
     let there = nth_below (responders_of x) c.args.responder a.responder a.there in
-    record {
-      a_responder_in_use = omega (arith, there, in_use x, c.from.ensures);
-      rows_for_all = subst (λ (n : ℕ). n ≤ length rows) c.rows_needed.ensures (ltb-false (length rows) c.rows_needed.result a.rows);
-      ports_in_use = ltb-false (length ports) x.port_count a.ports;
-      space_for_the_reply = ltb-false (length reply) (k.head_length + 4080) a.reply;
-    }
+    omega (arith, there, in_use x, c.from.ensures)
 
-pub returns : goal.returns
-returns g c =
+pub returns-clause-is_answered_and_done_as_the_model_says : goal.returns-clause-is_answered_and_done_as_the_model_says
+returns-clause-is_answered_and_done_as_the_model_says g c =
     let x = c.args.self.now in
     let m = g.R.Register.meaning c.args.register.now in
     let k = g.C.Carrier.meaning in
@@ -93,19 +81,16 @@ returns g c =
     let reply = c.args.reply.now in
     let r = c.from.result in
     let asked = c.in_ok-asked.asked in
-    let lent : Lent = record { rows_needed = c.rows_needed.result; rows = length rows; ports = length ports; reply = length reply } in
+    let lent : Lent = record { rows_needed = c.needed.result; rows = length rows; ports = length ports; reply = length reply } in
     let tested : Ok tt ≡ admission (responders_of x) x.port_count r (lengths_of k) lent =
     c.in_ok-admit.ensures ∙ ap (λ l. admission (responders_of x) x.port_count c.args.responder l lent) c.lengths.ensures
     ∙ ap (λ n. admission (responders_of x) x.port_count n (lengths_of k) lent) (sym c.from.ensures) in
     let a = admitted (responders_of x) x.port_count r (lengths_of k) lent tested in
     let read : Ok asked ≡ k.read_request c.args.message.now = c.in_ok-asked.ensures in
-    record {
-      is_answered_and_done_as_the_model_says = λ rest more.
-          let s = state_of x m (rows ++ rest) (ports ++ more) in
-          let y = own x m (rows ++ rest) (ports ++ more) r k c.args.message.now lent c.rows_needed.ensures a.responder a.there in
-          let there = own_there x m (rows ++ rest) (ports ++ more) r k c.args.message.now lent c.rows_needed.ensures a.responder a.there in
-          request_granted s r k (length rows) (length ports) c.args.message.now (length reply) reply y asked _ _ _ (c.respond.ensures rest more y there)
-          (admitted_then x m (rows ++ rest) (ports ++ more) r k c.args.message.now lent c.rows_needed.ensures a.responder a.there tested ∙ ap (reply_to s.drive y k) (sym read))
-          ∙ ap (λ n. exchanged (step s (request n k (length rows) (length ports) c.args.message.now (length reply))) reply) c.from.ensures;
-      a_refusal_changes_nothing = search rules;
-    }
+    λ rest more.
+    let s = state_of x m (rows ++ rest) (ports ++ more) in
+    let y = own x m (rows ++ rest) (ports ++ more) r k c.args.message.now lent (c.needed.ensures ∙ (λ i. c.of.ensures.for_the_responders i * c.of.ensures.for_the_controllers i)) a.responder a.there in
+    let there = own_there x m (rows ++ rest) (ports ++ more) r k c.args.message.now lent (c.needed.ensures ∙ (λ i. c.of.ensures.for_the_responders i * c.of.ensures.for_the_controllers i)) a.responder a.there in
+    request_granted s r k (length rows) (length ports) c.args.message.now (length reply) reply y asked _ _ _ (c.respond.ensures rest more y there)
+    (admitted_then x m (rows ++ rest) (ports ++ more) r k c.args.message.now lent (c.needed.ensures ∙ (λ i. c.of.ensures.for_the_responders i * c.of.ensures.for_the_controllers i)) a.responder a.there tested ∙ ap (reply_to s.drive y k) (sym read))
+    ∙ ap (λ n. exchanged (step s (request n k (length rows) (length ports) c.args.message.now (length reply))) reply) c.from.ensures
