@@ -18,7 +18,7 @@ pub struct ControllerHealthData {
 }
 
 impl ControllerHealthData {
-    // The entry that bytes begin with. Bits that are not named are ignored.
+    // The entry that bytes begin with. Bits that are not named are ignored. No `TryFrom`: bytes behind the entry are allowed.
     pub fn read(bytes: &[u8]) -> Result<Self, WireFault>
         ensures { entry_told result ≡ entry_in bytes.now }
     {
@@ -55,6 +55,7 @@ impl ControllerHealthData {
         })
     }
 
+    // The bytes of the entry, by the name that the numbers of std have for it.
     #[tactic(auto, using(health::proofs::Masks::flags_are_named, health::proofs::Masks::status_is_whole))]
     pub fn to_bytes(self) -> [u8; 16]
         ensures is_these_bytes { result ≡ entry_bytes (entry_of self) }

@@ -53,6 +53,7 @@ impl ControllerHealthPoll {
             | u32::from(self.clear_changed_flags) << 31
     }
 
+    // What two dwords ask for: a pair, which `From` would take as a tuple, and read no better.
     pub(crate) fn from_dwords(nmd0: u32, nmd1: u32) -> Self
         ensures { result ≡ poll_in nmd0 nmd1 }
     {

@@ -4,7 +4,7 @@ ghost use Rattle.commands.specs.Status.{status_in};
 use std::fmt;
 use wire::Head;
 
-// What a reply's head says of its request.
+// What a reply's head says of its request. No Result: `Success` stands in print with the others.
 #[derive(Clone, Copy)]
 pub enum ResponseStatus {
     Success,

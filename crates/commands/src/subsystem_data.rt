@@ -38,7 +38,7 @@ impl SubsystemHealthData {
             | u8::from(self.sanitize_failed) << 6
     }
 
-    // The data that bytes begin with. Bits that are not named are ignored.
+    // The data that bytes begin with. Bits that are not named are ignored. No `TryFrom`: bytes behind the data are allowed.
     pub fn read(bytes: &[u8]) -> Result<Self, WireFault>
         ensures { subsystem_told result ≡ subsystem_in bytes.now }
     {
@@ -59,6 +59,7 @@ impl SubsystemHealthData {
         })
     }
 
+    // The bytes of the data, by the name that the numbers of std have for it.
     #[tactic(auto, using(health::proofs::Masks::flags_are_named))]
     pub fn to_bytes(self) -> [u8; 8]
         ensures is_these_bytes { result ≡ subsystem_bytes (subsystem_of self) }

@@ -30,6 +30,7 @@ pub enum HexFault {
     OutOfMemory,
 }
 
+// The conversions are by hand: the contract of `read_hex` names the fault that a `?` makes.
 impl From<AllocError> for HexFault {
     ghost from_gives = { λ _ r. r ≡ OutOfMemory };
 

@@ -2,6 +2,7 @@ use console::{HexBytes, RefusalNumbers};
 use health::ChangedFlags;
 use std::fmt;
 use subsystem::Fault;
+use thiserror::Error;
 
 // What a call is granted.
 #[derive(Clone, Copy)]
@@ -35,27 +36,11 @@ impl fmt::Display for Grant<'_> {
 }
 
 // Why a call is not granted.
-#[derive(Clone, Copy)]
+#[derive(Clone, Copy, Debug, Error)]
 pub enum CallFault {
-    Refused(Fault),
+    #[error("{numbers}", numbers = RefusalNumbers { fault: *.0 })]
+    Refused(#[from] Fault),
     // out of phase
+    #[error("misuse")]
     Misuse,
-}
-
-impl From<Fault> for CallFault {
-    fn from(fault: Fault) -> CallFault {
-        CallFault::Refused(fault)
-    }
-}
-
-impl fmt::Display for CallFault {
-    fn fmt<W: fmt::Write>(&self, f: &mut fmt::Formatter<W>) -> fmt::Result {
-        match self {
-            CallFault::Refused(fault) => {
-                let refused = RefusalNumbers { fault: *fault };
-                write!(f, "{refused}")
-            }
-            CallFault::Misuse => write!(f, "misuse"),
-        }
-    }
 }

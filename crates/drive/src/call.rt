@@ -24,10 +24,12 @@ pub enum Call {
 #[derive(Clone, Copy)]
 pub enum FittingOutCall {
     Responder {
+        // any number, which the builder may refuse
         kind: u8,
     },
     Controller {
         id: u16,
+        // any number, which the builder may refuse
         function: u8,
         first: Report,
     },

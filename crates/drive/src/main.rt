@@ -38,12 +38,12 @@ fn check_arguments(rt: &HostRuntime) -> anyhow::Result<()> {
     Ok(())
 }
 
-fn run(rt: &HostRuntime) -> anyhow::Result<()> {
-    check_arguments(rt)?;
+fn main(rt: HostRuntime) -> anyhow::Result<()> {
+    check_arguments(&rt)?;
     let mut drive = Drive::new();
     for line in rt.lines(rt.alloc()) {
         match line {
-            Ok(line) => answer_line(rt, &mut drive, line.as_str())?,
+            Ok(line) => answer_line(&rt, &mut drive, line.as_str())?,
             Err(fault) => match fault.kind() {
                 io::ErrorKind::InvalidData => println!(rt; "error not UTF-8 text")?,
                 _ => return Err(fault.into()),
@@ -51,8 +51,4 @@ fn run(rt: &HostRuntime) -> anyhow::Result<()> {
         }
     }
     Ok(())
-}
-
-fn main(rt: HostRuntime) -> anyhow::Result<()> {
-    run(&rt)
 }

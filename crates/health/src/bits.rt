@@ -18,7 +18,7 @@ pub trait NamedBit<const MASK: u16>: Copy {
 }
 
 impl<const MASK: u16> Bits<MASK> {
-    // No bit set.
+    // No bit set. No derived `Default`, which a must-fail edit could not turn, and which says less at a call.
     pub fn none() -> Self
         ensures { result.bits ≡ 0 }
     {
@@ -33,6 +33,7 @@ impl<const MASK: u16> Bits<MASK> {
         Bits { bits: word & MASK }
     }
 
+    // The word as a number. No `From`: the field is read under this name in contracts too.
     pub fn bits(self) -> u16
         ensures { result ≡ self.entry.bits }
     {

@@ -11,7 +11,7 @@ pub type ChangedFlags = Bits<FLAGS>;
 
 impl ChangedFlags {
     #[tactic(auto, using(crate::proofs::Masks::flags_mask))]
-    // The flags of a word. Bits that name no flag are ignored.
+    // The flags of a word. Bits that name no flag are ignored: a `From` would hide that.
     pub fn from_bits(bits: u16) -> Self
         ensures { result.bits ≡ named_flags bits }
     {

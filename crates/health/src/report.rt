@@ -22,7 +22,7 @@ impl Report {
         self.status >> 9 == 0 && self.critical_warning >> 6 == 0
     }
 
-    // What a register holds of it: the status events are left out.
+    // What a register holds of it. No `From`: the status events are left out.
     pub fn health(self) -> Health
         ensures { health_of result ≡ reported_health self }
     {

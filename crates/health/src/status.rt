@@ -9,7 +9,8 @@ pub(crate) const STATUS: u16 = 0x01ff;
 pub type ControllerStatus = Bits<STATUS>;
 
 impl ControllerStatus {
-    // The status in a word. Bits 15:9 are ignored.
+    // The status in a word. Bits 15:9 are ignored. `from_bits` and `from_status` stand once for each of the three masks, so that each
+    // promises its bits in the words of its rules, and not by the mask alone.
     pub fn from_bits(bits: u16) -> Self
         ensures { result.bits ≡ bits % 2 ^ 9 }
     {

@@ -38,22 +38,18 @@ fn handle(rt: &HostRuntime, capture: &mut Capture, line: &str) -> anyhow::Result
     }
 }
 
-fn run(rt: &HostRuntime) -> anyhow::Result<()> {
+fn main(rt: HostRuntime) -> anyhow::Result<()> {
     let mut capture = Capture::default();
     let mut empty = true;
     for line in rt.lines(rt.alloc()) {
         let line = line?;
         empty = false;
-        handle(rt, &mut capture, line.as_str())?;
+        handle(&rt, &mut capture, line.as_str())?;
     }
     if empty {
         for line in EXAMPLE {
-            handle(rt, &mut capture, line)?;
+            handle(&rt, &mut capture, line)?;
         }
     }
     Ok(())
-}
-
-fn main(rt: HostRuntime) -> anyhow::Result<()> {
-    run(&rt)
 }

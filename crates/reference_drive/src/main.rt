@@ -20,10 +20,6 @@ fn poll_from_each(rt: &HostRuntime) -> Result<(), RunFault> {
     drive.poll::<Tunnel>(rt, 2)
 }
 
-fn run(rt: &HostRuntime) -> anyhow::Result<()> {
-    Ok(poll_from_each(rt)?)
-}
-
 fn main(rt: HostRuntime) -> anyhow::Result<()> {
-    run(&rt)
+    Ok(poll_from_each(&rt)?)
 }

@@ -38,6 +38,7 @@ impl Refused for RegisterFault {
     }
 }
 
+// By hand: contracts name the fault that a `?` makes.
 impl From<TableFault<u16>> for RegisterFault {
     ghost from_gives = { λ f r. r ≡ climbed f };
 

@@ -22,7 +22,7 @@ impl SubsystemBuilder {
         }
     }
 
-    // Adds a Responder whose carrier is of this kind, and answers its number.
+    // Adds a Responder whose carrier is of this kind, and answers its number. A kind is any number, so that 0 can be refused.
     pub fn add_responder(&mut self, kind: u8) -> Result<u8, Fault>
         ensures refused_at_kind_0_and_at_the_ninth { in_numbers result ≡ add_responder_answer kind (fitted_of self.old) }
         ensures a_refusal_changes_nothing { is_ok result ≡ false → self.new ≡ self.old }
@@ -40,7 +40,8 @@ impl SubsystemBuilder {
         Ok(count as u8)
     }
 
-    // Enrolls a controller in the register that is lent, with the type of its PCI function and its first health.
+    // Enrolls a controller in the register that is lent, with the type of its PCI function and its first health. The type is any number, so
+    // that one above 2 can be refused.
     pub fn enroll<R: Register>(
         &mut self,
         register: &mut R,

@@ -90,6 +90,7 @@ impl Refused for Fault {
     }
 }
 
+// The conversions are by hand: contracts name the fault that a `?` makes.
 impl From<RegisterFault> for Fault {
     ghost from_gives = { λ f r. r ≡ Register f };
 

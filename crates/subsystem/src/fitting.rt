@@ -7,7 +7,7 @@ ghost use Rattle.model.specs.Fitting.{controller_enrolled};
 use health::Report;
 use register::{Controller, FunctionType};
 
-// Adds a kind behind the first `count`.
+// Adds a kind, as `Carrier::KIND`, behind the first `count`.
 pub(crate) fn push_kind(kinds: &mut [u8], count: usize, kind: u8)
     requires { count < length kinds.old }
     ensures { take (count + 1) kinds.new ≡ take count kinds.old ++ kind ∷ [] }

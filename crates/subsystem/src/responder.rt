@@ -6,6 +6,7 @@ use health::ChangedFlags;
 // A Responder in service: the kind of its carrier, and its Composite Controller Status Flags. Its rows stand in lent memory.
 #[derive(Clone, Copy)]
 pub(crate) struct Responder {
+    // as `Carrier::KIND`
     pub(crate) kind: u8,
     pub(crate) composite: ChangedFlags,
 }

@@ -9,7 +9,7 @@ use crate::message::{Command, Head, Lengths, Request};
 // A carrier is how a request and a reply's head are laid out as bytes. Its meaning says so by four definitions and their laws,
 // and each method is held to it for every argument.
 pub trait Carrier {
-    // 1 to 255
+    // 1 to 255. A number and no enum: who adds a carrier adds a kind.
     const KIND: u8;
 
     ghost KIND: { ℕ };

@@ -28,6 +28,7 @@ pub struct Head {
 // A carrier's kind number, and the lengths in bytes of its heads and of its requests.
 #[derive(Clone, Copy)]
 pub struct Lengths {
+    // as `Carrier::KIND`
     pub kind: u8,
     pub head: usize,
     pub request: usize,

@@ -5,7 +5,7 @@ ghost use Rattle.wire.specs.Refusals.{Refusal};
 pub trait Refused: Copy {
     ghost refusal: { Self → Refusal };
 
-    // The number of the refusal.
+    // The number of the refusal: this and the layer are numbers in the rules, and are told to callers as such.
     fn number(self) -> u8
         ensures { result ≡ (refusal self).number };
 
