@@ -1,5 +1,5 @@
 -- The tests of a request before its bytes are read.
-use Rattle.std.proofs.Common.{◌≡◌, ℕ, ◌+◌, ◌<◌, ◌≤◌, Bool, true, false, not, eqb, ltb, List, get_or, Some, None, Ok, Err, Option, Result, sym, refl, ap, ◌∙◌, arith}
+use Rattle.std.proofs.Common.{◌≡◌, ℕ, ◌+◌, ◌<◌, ◌≤◌, Bool, true, false, not, eqb, ltb, List, get_or, Some, None, Ok, Err, Option, Result, sym, refl, ap, ◌∙◌, arith, length}
 use Rattle.std.specs.List.{slice_get}
 use Rattle.std.proofs.lemmas.Option.{slice_get_past}
 use Rattle.std.proofs.lemmas.Bool.{eq-eqb, ne_eqb}
@@ -20,14 +20,14 @@ module _ (x : Subsystem) (r : ℕ) (lengths : Lengths) (lent : Lent) where
   abbrev tested : Result (Unit {0}) Refusal
   tested = admission (responders_of x) x.port_count r lengths lent
 
-  pub absent : x.responder_count ≤ r → Err (no_such_responder r) ≡ tested
+  pub absent : length x.responders.items ≤ r → Err (no_such_responder r) ≡ tested
   absent l = sym (ap (λ o. admitted_at o x.port_count r lengths lent) (slice_get_past (responders_of x) r (omega (arith, in_use x))))
 
-  module _ (d : Responder) (there : r < x.responder_count) where
+  module _ (d : Responder) (there : r < length x.responders.items) where
     abbrev kind : ℕ
-    kind = (get_or x.responders r d).kind
+    kind = (get_or x.responders.items r d).kind
 
-    by_responder : admitted_at (Some (responder_of (get_or x.responders r d))) x.port_count r lengths lent ≡ tested
+    by_responder : admitted_at (Some (responder_of (get_or x.responders.items r d))) x.port_count r lengths lent ≡ tested
     by_responder = sym (ap (λ o. admitted_at o x.port_count r lengths lent) (nth_in_use x r d there))
 
     pub another_kind : (kind ≡ lengths.kind → ⊥) → Err (responder_of_another_kind r) ≡ tested

@@ -1,9 +1,8 @@
 -- A call that changes one Responder and its rows, and no other.
 use Rattle.std.proofs.Common.{◌≡◌, ℕ, zero, suc, ◌+◌, ◌*◌, ◌<◌, ◌≤◌, List, [], ◌∷◌, ◌++◌, map, length, get_or, take, drop, set, Some, None, sym, refl, ap, ◌∙◌, subst, ap₂, arith}
-use lib.Seq.{take-set-lt}
 use borrow.Rule.Slice.PartMut.{put_mid, same_len_mid, mid_of}
 use Rattle.std.specs.List.{slice_get}
-use Rattle.std.proofs.lemmas.List.{length-map, length-append, length-set, length-take-le, length-drop, map-append, map-set, take-map, drop-map, get_or-map, get_or-take}
+use Rattle.std.proofs.lemmas.List.{length-map, length-append, length-set, length-take-le, length-drop, map-append, map-set, take-map, drop-map, get_or-map}
 use Rattle.std.proofs.lemmas.Option.{slice_get-get_or, slice_get_past}
 use Rattle.std.proofs.lemmas.Slice.{drop-put_mid}
 use Rattle.health.specs.Rows.{RowValues, row_of}
@@ -72,40 +71,37 @@ map-put_mid f a k xs ys =
     ∙ ap₂ (λ u v. u ++ v) (sym (take-map f a xs)) (map-append f ys (drop k (drop a xs)) ∙ ap (λ v. map f ys ++ v) (sym (ap (drop k) (drop-map f a xs) ∙ drop-map f k (drop a xs))))
 
 -- a Responder of the code that is in use
-pub nth_in_use : (x : Subsystem) (r : ℕ) (d : Responder) → r < x.responder_count → slice_get (responders_of x) r ≡ Some (responder_of (get_or x.responders r d))
+pub nth_in_use : (x : Subsystem) (r : ℕ) (d : Responder) → r < length x.responders.items → slice_get (responders_of x) r ≡ Some (responder_of (get_or x.responders.items r d))
 nth_in_use x r d l =
     let n = in_use x in
-    let first = take x.responder_count x.responders in
-    let within : r < length first = omega (arith, length-map first responder_of) in
-    slice_get-get_or (responders_of x) r (responder_of d) (omega arith)
-    ∙ ap Some (get_or-map responder_of first r d (responder_of d) within ∙ ap responder_of (get_or-take x.responder_count x.responders r d l))
+    slice_get-get_or (responders_of x) r (responder_of d) (omega arith) ∙ ap Some (get_or-map responder_of x.responders.items r d (responder_of d) l)
 
 module _ (x : Subsystem) (m : RegisterValues) where
   abbrev c : ℕ
   c = length m.controllers
 
   -- a Responder of the code, and its rows
-  pub responder_there : (rows : List Row) (ports : List Port) (r : ℕ) (d : Responder) → r < x.responder_count
-      → responder_at (state_of x m rows ports) r ≡ Some (with_its_rows (responder_of (get_or x.responders r d)) (take c (drop (r * c) (map row_of rows))))
-  responder_there rows ports r d l = nth_responders c (responders_of x) (map row_of rows) r (responder_of (get_or x.responders r d)) (nth_in_use x r d l)
+  pub responder_there : (rows : List Row) (ports : List Port) (r : ℕ) (d : Responder) → r < length x.responders.items
+      → responder_at (state_of x m rows ports) r ≡ Some (with_its_rows (responder_of (get_or x.responders.items r d)) (take c (drop (r * c) (map row_of rows))))
+  responder_there rows ports r d l = nth_responders c (responders_of x) (map row_of rows) r (responder_of (get_or x.responders.items r d)) (nth_in_use x r d l)
 
-  pub responder_exists : (rows : List Row) (ports : List Port) (r : ℕ) → r < x.responder_count → (y : model.Responder) × (responder_at (state_of x m rows ports) r ≡ Some y)
+  pub responder_exists : (rows : List Row) (ports : List Port) (r : ℕ) → r < length x.responders.items → (y : model.Responder) × (responder_at (state_of x m rows ports) r ≡ Some y)
   responder_exists rows ports r l = some_below (state_of x m rows ports).responders r (omega (arith, count_is x m rows ports))
 
-  pub responder_absent : (rows : List Row) (ports : List Port) (r : ℕ) → x.responder_count ≤ r → responder_at (state_of x m rows ports) r ≡ None
+  pub responder_absent : (rows : List Row) (ports : List Port) (r : ℕ) → length x.responders.items ≤ r → responder_at (state_of x m rows ports) r ≡ None
   responder_absent rows ports r l = slice_get_past _ r (omega (arith, count_is x m rows ports))
 
   -- one Responder of the code and its rows are changed
-  pub responder_replaced : (rows part rest : List Row) (ports : List Port) (r k n : ℕ) (new : Responder) → r < x.responder_count → k ≡ r * c → n ≡ c
-      → x.responder_count * c ≤ length rows → length part ≡ c
-      → state_from (drive_of x m ports) (map responder_of (take x.responder_count (set x.responders r new))) (map row_of (put_mid k n rows part ++ rest))
+  pub responder_replaced : (rows part rest : List Row) (ports : List Port) (r k n : ℕ) (new : Responder) → r < length x.responders.items → k ≡ r * c → n ≡ c
+      → length x.responders.items * c ≤ length rows → length part ≡ c
+      → state_from (drive_of x m ports) (map responder_of (set x.responders.items r new)) (map row_of (put_mid k n rows part ++ rest))
       ≡ with_responders (state_of x m (rows ++ rest) ports) (at_place (state_of x m (rows ++ rest) ports).responders r (λ _. with_its_rows (responder_of new) (map row_of part)))
   responder_replaced rows part rest ports r k n new l ek en room long =
       let d = drive_of x m ports in
       let hs = responders_of x in
       let ws = map row_of rows in
       let count = in_use x in
-      let responders = ap (map responder_of) (take-set-lt x.responder_count x.responders r new l) ∙ map-set responder_of (take x.responder_count x.responders) r new in
+      let responders = map-set responder_of x.responders.items r new in
       let memory = map-append row_of (put_mid k n rows part) rest ∙ ap (λ v. v ++ map row_of rest) (map-put_mid row_of k n rows part ∙ ap (λ v. put_mid k v ws (map row_of part)) en) in
       ap₂ (state_from d) responders memory
       ∙ responder_done d hs ws (map row_of part) (map row_of rest) r k (responder_of new) ek (omega arith) (subst (λ (v : ℕ). v * c ≤ length ws) (sym count) (simp length-map room)) (length-map part row_of ∙ long)

@@ -13,24 +13,10 @@ use Rattle.model.specs.State.{Drive, needed_rows}
 use Rattle.model.specs.State as model
 use Rattle.model.specs.ServiceRefusals.{memory_too_short, nothing_to_open}
 use Rattle.model.specs.Fitting.{Fitted, rows_to_open, open_answer, opened, new_responder, initial_status}
-use Rattle.subsystem.specs.Builders.{fitted_of}
 use Rattle.subsystem.specs.Responders.{ResponderValues, no_composite}
 use Rattle.subsystem.specs.States.{with_its_rows, responders_with_rows, state_from}
-use Rattle.subsystem.specs.declared.builder.SubsystemBuilder.{SubsystemBuilder}
 use Rattle.subsystem.proofs.Checks.{test_passed}
 use Rattle.subsystem.proofs.RowGroups.{suc_mul_front, state_with_rest}
-
--- how many Responders were added
-pub kinds_count : (b : SubsystemBuilder) → length (fitted_of b).kinds ≡ b.responder_count
-kinds_count b = length-take-le b.responder_count b.kinds (let l = b.at_most_8_responders in let e = b.eight_kinds in omega arith)
-
--- how many rows they need
-module _ (b : SubsystemBuilder) (m : RegisterValues) (ws : List RowValues) where
-  abbrev c : ℕ
-  c = length m.controllers
-
-  pub needed_is : b.responder_count * c ≡ rows_to_open (fitted_of b) m
-  needed_is = ap (λ n. n * c) (sym (kinds_count b))
 
 -- a granted opening has rows enough
 pub open_room : (b : Fitted) (m : RegisterValues) (ws : List RowValues) → ◌≡◌ {A = Result (Unit {0}) Refusal} (Ok tt) (open_answer b m ws) → rows_to_open b m ≤ length ws

@@ -1,8 +1,6 @@
 -- The cases of a report.
-use Rattle.std.proofs.Common.{◌≡◌, ℕ, zero, suc, ◌-◌, ◌*◌, ◌<◌, ◌≤◌, true, false, ltb, List, [], ◌∷◌, ◌++◌, map, length, take, drop, Some, Ok, Err, Result, sym, refl, ap, ◌∙◌, subst, ap₂, suc-mul, arith}
-use native.Mathlib.Nat.{sub-zero}
-use borrow.Rule.Slice.PartMut.{mid_of, post_of}
-use Rattle.std.specs.List.{slice_get}
+use Rattle.std.proofs.Common.{◌≡◌, ℕ, zero, suc, ◌*◌, ◌<◌, ◌≤◌, true, false, ltb, List, [], ◌∷◌, ◌++◌, map, length, take, drop, Some, Ok, Err, Result, sym, refl, ap, ◌∙◌, subst, ap₂, suc-mul, arith}
+use Rattle.std.specs.List.{slice_get, refill}
 use Rattle.std.proofs.lemmas.List.{length-map, length-take-le, length-drop, take_at, map-append}
 use Rattle.health.specs.Rows.{RowValues, row_of}
 use Rattle.health.specs.Status.{events_in}
@@ -30,13 +28,11 @@ use Rattle.subsystem.proofs.Finding.{nth_below, renewed_is_written, marked_is_at
 use Rattle.subsystem.proofs.RowGroups.{length_responders, state_with_rest}
 
 -- how many Responders are in use
-pub in_use : (x : Subsystem) → length (responders_of x) ≡ x.responder_count
-in_use x =
-    length-map (take x.responder_count x.responders) responder_of
-    ∙ length-take-le x.responder_count x.responders (let a = x.at_most_8_responders in let b = x.eight_responders in omega arith)
+pub in_use : (x : Subsystem) → length (responders_of x) ≡ length x.responders.items
+in_use x = length-map x.responders.items responder_of
 
 -- the Responders of the state of a subsystem
-pub count_is : (x : Subsystem) (m : RegisterValues) (rows : List Row) (ports : List Port) → count_of_responders (state_of x m rows ports) ≡ x.responder_count
+pub count_is : (x : Subsystem) (m : RegisterValues) (rows : List Row) (ports : List Port) → count_of_responders (state_of x m rows ports) ≡ length x.responders.items
 count_is x m rows ports = length_responders (length m.controllers) (responders_of x) (map row_of rows) ∙ in_use x
 
 -- what a report is answered, and the state after it, by the answer of its tests
@@ -50,12 +46,12 @@ module _ (x : Subsystem) (m : RegisterValues) (rows lent : List Row) (ports : Li
   s = state_of x m rows ports
 
   abbrev needed : ℕ
-  needed = x.responder_count * length m.controllers
+  needed = length x.responders.items * length m.controllers
 
   abbrev tested : Result (Unit {0}) Refusal
   tested = report_answer s.drive (count_of_responders s) (length lent) id p
 
-  by_count : (o : Result (Unit {0}) Refusal) → report_answer s.drive x.responder_count (length lent) id p ≡ o → tested ≡ o
+  by_count : (o : Result (Unit {0}) Refusal) → report_answer s.drive (length x.responders.items) (length lent) id p ≡ o → tested ≡ o
   by_count o e = ap (λ n. report_answer s.drive n (length lent) id p) (count_is x m rows ports) ∙ e
 
   pub report_short : (f : Refusal) → ◌≡◌ {A = Result (Unit {0}) Refusal} (Err f) (refuse_if (ltb (length lent) needed) (memory_too_short needed) (Ok tt)) → tested ≡ Err f
@@ -109,25 +105,17 @@ module _ (d : Drive) (hs hs' : List ResponderValues) (ws ws' rest : List RowValu
 
 -- ---- the same over the code's values
 
--- a part from the start is the first n
-pub part_from_start : {X : Type 0} (n : ℕ) (xs : List X) → mid_of 0 (n - 0) xs ≡ take n xs
-part_from_start n xs = ap (λ k. take k xs) (sub-zero n)
-
--- the first n of a list, lent and given back
-module _ {X : Type 0} (n : ℕ) (xs part : List X) (room : n ≤ length xs) (as_many : length part ≡ length (mid_of 0 (n - 0) xs)) where
-  pub length_part : length part ≡ n
-  length_part = as_many ∙ ap length (part_from_start n xs) ∙ length-take-le n xs room
-
-  pub take_given_back : take n (part ++ post_of 0 (n - 0) xs) ≡ part
-  take_given_back = take_at part (post_of 0 (n - 0) xs) n length_part
+-- elements that were lent and given back
+pub given_back : {X : Type 0} (xs ws : List X) → length ws ≡ length xs → refill (length xs) xs ws ≡ ws
+given_back xs ws long = take_at ws (drop (length ws) xs) (length xs) long
 
 module _ (x : Subsystem) (m : RegisterValues) (rows rest : List Row) (ports : List Port) (id : ℕ) (p : Report) where
   -- from what the calls below a report promise
   pub report_granted : (rows' : List Row) (lent part : List Responder) (m' : RegisterValues) (k n g e : ℕ) (c : ControllerValues)
       → Ascends 0 m.controllers → slice_get m.controllers k ≡ Some c → c.id ≡ id
       → n ≡ length m.controllers → g ≡ gained c.health p → e ≡ events_in p.status
-      → lent ≡ take x.responder_count x.responders → length part ≡ length lent → length rows' ≡ length rows
-      → x.responder_count * length m.controllers ≤ length rows
+      → lent ≡ x.responders.items → length part ≡ length lent → length rows' ≡ length rows
+      → length x.responders.items * length m.controllers ≤ length rows
       → m' ≡ after_write k (reported_health p) m
       → responders_with_rows n (map responder_of part) (map row_of rows') ≡ map (marked_at k g e) (responders_with_rows n (map responder_of lent) (map row_of rows))
       → drop (length lent * n) (map row_of rows') ≡ drop (length lent * n) (map row_of rows)
@@ -136,8 +124,8 @@ module _ (x : Subsystem) (m : RegisterValues) (rows rest : List Row) (ports : Li
       let cs = m.controllers in
       let hs = responders_of x in
       let ws = map row_of rows in
-      let count : length hs ≡ x.responder_count = in_use x in
-      let many : length lent ≡ length hs = ap length el ∙ sym (length-map (take x.responder_count x.responders) responder_of) in
+      let count : length hs ≡ length x.responders.items = in_use x in
+      let many : length lent ≡ length hs = ap length el ∙ sym (length-map x.responders.items responder_of) in
       let done = report_done (drive_of x m ports) hs (map responder_of part) ws (map row_of rows') (map row_of rest) id p k c a at_k has_id
       (nth_below cs k c at_k) (length-map part responder_of ∙ ep ∙ many)
       (subst (λ (v : ℕ). v * length cs ≤ length ws) (sym count) (simp length-map room)) (length-map rows' row_of ∙ er ∙ sym (length-map rows row_of))

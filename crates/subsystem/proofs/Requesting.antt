@@ -65,7 +65,7 @@ nth_none c (h ∷ hs) ws zero e = let z : ◌≡◌ {A = ℕ} 0 1 = cc in absurd
 nth_none c (h ∷ hs) ws (suc r) e = nth_none c hs (drop c ws) r e
 
 module _ (x : Subsystem) (m : RegisterValues) (rows : List Row) (ports : List Port) (r : ℕ) (k : CarrierMeaning) (bytes : List ℕ) (lent : Lent)
-    (needed : lent.rows_needed ≡ x.responder_count * length m.controllers) where
+    (needed : lent.rows_needed ≡ length x.responders.items * length m.controllers) where
   abbrev s : State
   s = state_of x m rows ports
 

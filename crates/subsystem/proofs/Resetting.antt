@@ -25,7 +25,7 @@ module _ (x : Subsystem) (m : RegisterValues) (rows : List Row) (ports : List Po
   s = state_of x m rows ports
 
   abbrev needed : ℕ
-  needed = x.responder_count * length m.controllers
+  needed = length x.responders.items * length m.controllers
 
   pub reset_absent : responder_at s r ≡ None → reset_answer s.drive (count_of_responders s) (responder_at s r) r lent ≡ Err (no_such_responder r)
   reset_absent e = ap (λ o. reset_answer s.drive (count_of_responders s) o r lent) e

@@ -1,8 +1,7 @@
 -- What a builder stands for.
-use Rattle.std.specs.Prelude.{take}
 use Rattle.model.specs.Fitting.{Fitted}
 use Rattle.subsystem.specs.declared.builder.SubsystemBuilder.{SubsystemBuilder}
 
 -- a builder of the code
 abbrev pub fitted_of : SubsystemBuilder → Fitted
-fitted_of b = record { kinds = take b.responder_count b.kinds; port_count = b.port_count }
+fitted_of b = record { kinds = b.kinds.items; port_count = b.port_count }

@@ -33,7 +33,7 @@ drive_of x m ports = record { register = m; status = status_of x.status; port_co
 
 -- the Responders of the code that are in use
 abbrev pub responders_of : Subsystem → List ResponderValues
-responders_of x = map responder_of (take x.responder_count x.responders)
+responders_of x = map responder_of x.responders.items
 
 -- a subsystem of the code, with the register, the rows memory and the port memory
 abbrev pub state_of : Subsystem → RegisterValues → List Row → List Port → State

@@ -5,7 +5,8 @@ ghost use Rattle.subsystem.specs.Faults.{in_numbers};
 
 use crate::builder::SubsystemBuilder;
 use crate::fault::Fault;
-use crate::fitting::{controller_from, push_kind};
+use crate::fitting::controller_from;
+use arrayvec::ArrayVec;
 use health::Report;
 use register::{Port, Register};
 use table::insert_into;
@@ -16,8 +17,7 @@ impl SubsystemBuilder {
         ensures is_empty { fitted_of result ≡ nothing_fitted }
     {
         SubsystemBuilder {
-            kinds: [0; 8],
-            responder_count: 0,
+            kinds: ArrayVec::new(),
             port_count: 0,
         }
     }
@@ -31,12 +31,10 @@ impl SubsystemBuilder {
         if kind == 0 {
             return Err(Fault::NoKind);
         }
-        let count = self.responder_count;
-        if count >= 8 {
+        let count = self.kinds.len();
+        if self.kinds.try_push(kind).is_err() {
             return Err(Fault::NinthResponder);
         }
-        push_kind(&mut self.kinds, count, kind);
-        self.responder_count = count + 1;
         Ok(count as u8)
     }
 

@@ -7,14 +7,6 @@ ghost use Rattle.model.specs.Fitting.{controller_enrolled};
 use health::Report;
 use register::{Controller, FunctionType};
 
-// Adds a kind, as `Carrier::KIND`, behind the first `count`.
-pub(crate) fn push_kind(kinds: &mut [u8], count: usize, kind: u8)
-    requires { count < length kinds.old }
-    ensures { take (count + 1) kinds.new ≡ take count kinds.old ++ kind ∷ [] }
-{
-    kinds[count] = kind;
-}
-
 // The controller that an enrolment names, unless it is malformed.
 pub(crate) fn controller_from(id: u16, function: u8, first: Report) -> Option<Controller>
     ensures { option_map controller_of result ≡ controller_enrolled id function first }

@@ -28,8 +28,7 @@ impl SubsystemBuilder {
                 fault,
             }),
             Ok(()) => Ok(Subsystem {
-                responders: responders_of_kinds(self.kinds),
-                responder_count: self.responder_count,
+                responders: responders_of_kinds(&self.kinds),
                 port_count: self.port_count,
                 status: initial_status(),
             }),

@@ -12,6 +12,7 @@ use crate::builder::SubsystemBuilder;
 use crate::fault::Fault;
 use crate::memory::{Layout, check_length};
 use crate::responder::Responder;
+use arrayvec::ArrayVec;
 use health::Row;
 use polls::{SubsystemStatus, clear_rows};
 use register::Register;
@@ -44,19 +45,22 @@ pub(crate) fn clear_for_opening<R: Register>(
     ensures clears_the_rows_in_use { map row_of rows.new ≡ rows_after_opening (in_numbers result) (fitted_of builder.now) (R.Register.meaning register.now) (map row_of rows.old) }
     ensures a_refusal_changes_nothing { is_ok result ≡ false → rows.new ≡ rows.old }
 {
-    if nothing_to_open(builder.responder_count, register.len()) {
+    if nothing_to_open(builder.kinds.len(), register.len()) {
         return Err(Fault::NothingToOpen);
     }
-    let needed = Layout::of(register, builder.responder_count).needed();
+    let needed = Layout::of(register, builder.kinds.len()).needed();
     check_length(rows.len(), needed)?;
     clear_rows(&mut rows[0..needed]);
     Ok(())
 }
 
 // Responders of these kinds.
-pub(crate) fn responders_of_kinds(kinds: [u8; 8]) -> [Responder; 8]
-    requires { length kinds ≡ 8 }
-    ensures { map responder_of result ≡ map no_composite kinds }
+pub(crate) fn responders_of_kinds(kinds: &ArrayVec<u8, 8>) -> ArrayVec<Responder, 8>
+    ensures { map responder_of result.items ≡ map no_composite kinds.now.items }
 {
-    kinds.map(Responder::new)
+    let mut responders = ArrayVec::new();
+    for kind in kinds.iter() {
+        responders.push(Responder::new(*kind));
+    }
+    responders
 }

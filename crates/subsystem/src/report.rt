@@ -10,7 +10,7 @@ ghost use Rattle.subsystem.specs.States.{state_of};
 use crate::fault::Fault;
 use crate::find::find_controller;
 use crate::mark::mark_responders;
-use crate::memory::{Layout, check_length};
+use crate::memory::check_length;
 use crate::service::Subsystem;
 use health::{Report, Row, StatusEvents};
 use health_rules::gained_flags;
@@ -38,13 +38,13 @@ impl Subsystem {
         if !new.is_well_formed() {
             return Err(Fault::Malformed { id });
         }
-        let layout = Layout::of(register, self.responder_count);
+        let layout = self.layout(register);
         check_length(rows.len(), layout.needed())?;
         let Some(found) = find_controller(register, id) else {
             return Err(Fault::UnknownIdentifier { id });
         };
         mark_responders(
-            &mut self.responders[0..self.responder_count],
+            &mut self.responders,
             rows,
             layout,
             found.place,

@@ -6,7 +6,7 @@ ghost use Rattle.subsystem.specs.Faults.{in_numbers};
 ghost use Rattle.subsystem.specs.States.{state_of};
 
 use crate::fault::Fault;
-use crate::memory::{Layout, check_length};
+use crate::memory::check_length;
 use crate::service::Subsystem;
 use health::{ChangedFlags, Row};
 use polls::clear_rows;
@@ -24,10 +24,10 @@ impl Subsystem {
         ensures a_refusal_changes_nothing { is_ok result ≡ false → (self.new ≡ self.old) × (rows.new ≡ rows.old) }
     {
         let r = usize::from(responder);
-        if r >= self.responder_count {
+        if r >= self.responders.len() {
             return Err(Fault::NoSuchResponder { responder });
         }
-        let layout = Layout::of(register, self.responder_count);
+        let layout = self.layout(register);
         check_length(rows.len(), layout.needed())?;
         clear_rows(&mut rows[layout.rows_of(r)]);
         self.responders[r].composite = ChangedFlags::none();

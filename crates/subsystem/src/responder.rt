@@ -22,3 +22,10 @@ impl Responder {
         }
     }
 }
+
+// What an unused place holds.
+impl Default for Responder {
+    fn default() -> Self {
+        Responder::new(0)
+    }
+}

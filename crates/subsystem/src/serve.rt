@@ -4,6 +4,7 @@ ghost use Rattle.wire.specs.Refusals.{refuse_if, space_too_short};
 ghost use Rattle.register.specs.declared.port.Port.{Port};
 ghost use Rattle.model.specs.State.{Responder};
 ghost use Rattle.model.specs.Calls.{request, step, reply_space, responder_at};
+ghost use Rattle.arrayvec.specs.ArrayVec.{array_vec_len};
 ghost use Rattle.subsystem.specs.Faults.{in_numbers};
 ghost use Rattle.subsystem.specs.States.{state_of, responders_of};
 ghost use Rattle.subsystem.specs.Replies.{exchanged, Responds};
@@ -12,7 +13,7 @@ ghost use Rattle.subsystem.specs.Admission.{admission};
 use crate::answer::Polled;
 use crate::fault::Fault;
 use crate::lent::Lent;
-use crate::memory::{Layout, check_length};
+use crate::memory::check_length;
 use crate::reply::write_head_before;
 use crate::service::Subsystem;
 use health::Row;
@@ -38,7 +39,7 @@ impl Subsystem {
         ensures { in_numbers result ≡ admission (responders_of self.now) self.now.port_count responder lengths lent }
     {
         let r = usize::from(responder);
-        if r >= self.responder_count {
+        if r >= self.responders.len() {
             return Err(Fault::NoSuchResponder { responder });
         }
         if self.responders[r].kind != lengths.kind {
@@ -59,8 +60,8 @@ impl Subsystem {
         asked: Request,
         reply: &mut [u8],
     ) -> usize
-        requires a_responder_in_use { responder < self.old.responder_count }
-        requires rows_for_all { self.old.responder_count * length (R.Register.meaning register.now).controllers ≤ length rows.old }
+        requires a_responder_in_use { responder < array_vec_len self.old.responders }
+        requires rows_for_all { array_vec_len self.old.responders * length (R.Register.meaning register.now).controllers ≤ length rows.old }
         requires ports_in_use { self.old.port_count ≤ length ports.now }
         requires space_for_the_reply { reply_space C.Carrier.meaning ≤ length reply.old }
         ensures { (rest : List Row) (more : List Port) (x : Responder) → responder_at (state_of self.old (R.Register.meaning register.now) (rows.old ++ rest) (ports.now ++ more)) responder ≡ Some x → Responds C.Carrier.meaning (state_of self.old (R.Register.meaning register.now) (rows.old ++ rest) (ports.now ++ more)) responder x asked result reply.old reply.new (state_of self.new (R.Register.meaning register.now) (rows.new ++ rest) (ports.now ++ more)) }
@@ -72,7 +73,7 @@ impl Subsystem {
             ports: &ports[0..self.port_count],
             composite: self.responders[responder].composite,
         };
-        let own = &mut rows[Layout::of(register, self.responder_count).rows_of(responder)];
+        let own = &mut rows[self.layout(register).rows_of(responder)];
         let answered = polled.answer_behind_head(own, asked, head, reply);
         self.responders[responder].composite = answered.composite;
         write_head_before::<C>(asked, answered, reply)
@@ -92,7 +93,7 @@ impl Subsystem {
         ensures a_refusal_changes_nothing { is_ok result ≡ false → (self.new ≡ self.old) × (rows.new ≡ rows.old) × (reply.new ≡ reply.old) }
     {
         let lent = Lent {
-            rows_needed: Layout::of(register, self.responder_count).needed(),
+            rows_needed: self.layout(register).needed(),
             rows: rows.len(),
             ports: ports.len(),
             reply: reply.len(),

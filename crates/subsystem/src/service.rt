@@ -1,16 +1,27 @@
 ghost use Rattle.std.specs.Prelude.{◌≡◌, ◌≤◌, length};
+ghost use Rattle.arrayvec.specs.ArrayVec.{array_vec_len};
 
+use crate::memory::Layout;
 use crate::responder::Responder;
+use arrayvec::ArrayVec;
 use polls::SubsystemStatus;
+use register::Register;
 
 // A subsystem in service: it takes reports, port links, the drive's status, requests and resets. Nothing can be added to it.
 #[derive(Drop)]
 pub struct Subsystem {
-    pub(crate) responders: [Responder; 8],
-    pub(crate) responder_count: usize,
+    pub(crate) responders: ArrayVec<Responder, 8>,
     pub(crate) port_count: usize,
     pub(crate) status: SubsystemStatus,
-    ghost at_most_8_responders: { responder_count ≤ 8 },
-    ghost eight_responders: { length responders ≡ 8 },
     ghost at_most_8_ports: { port_count ≤ 8 },
+}
+
+impl Subsystem {
+    // Where the rows of its Responders stand.
+    pub(crate) fn layout<R: Register>(&self, register: &R) -> Layout
+        ensures for_the_responders { result.responders ≡ array_vec_len self.now.responders }
+        ensures for_the_controllers { result.controllers ≡ length (R.Register.meaning register.now).controllers }
+    {
+        Layout::of(register, self.responders.len())
+    }
 }

@@ -2,7 +2,7 @@ use Rattle.std.proofs.Common.{◌*◌, ◌≤◌, ◌++◌, map, length, drop, r
 use Rattle.std.proofs.lemmas.Bool.{ltb-false}
 use Rattle.health.specs.Rows.{row_of, clear_row}
 use Rattle.subsystem.proofs.Checks.{test_passed}
-use Rattle.subsystem.proofs.OpenCases.{needed_is, rows_cleared}
+use Rattle.subsystem.proofs.OpenCases.{rows_cleared}
 use Rattle.subsystem.proofs.opening.clear_for_opening.Goals as goal
 
 pub returns-clause-clears_the_rows_in_use : goal.returns-clause-clears_the_rows_in_use
@@ -13,5 +13,5 @@ returns-clause-clears_the_rows_in_use g c =
     let n = c.needed-needed.result in
     let tested = c.in_ok-check_length.ensures in
     let room : n ≤ length rows = ltb-false (length rows) n (test_passed _ _ tested) in
-    let needed = (c.needed-needed.ensures ∙ (λ i. c.of.ensures.for_the_responders i * c.of.ensures.for_the_controllers i)) ∙ needed_is b m (map row_of rows) in
+    let needed = (c.needed-needed.ensures ∙ (λ i. (c.of.ensures.for_the_responders ∙ c.len-3.ensures.value) i * c.of.ensures.for_the_controllers i)) in
     rows_cleared n rows c.clear_rows.new.rows room c.clear_rows.ensures ∙ ap (λ v. replicate v clear_row ++ drop v (map row_of rows)) needed

@@ -1,5 +1,5 @@
-use Rattle.std.proofs.Common.{◌≡◌, List, ◌++◌, map, take, sym, ap, ◌∙◌, subst, ap₂, rules}
-use Rattle.std.proofs.lemmas.List.{map-append, take-map}
+use Rattle.std.proofs.Common.{◌≡◌, List, ◌++◌, map, sym, ap, ◌∙◌, subst, ap₂, rules}
+use Rattle.std.proofs.lemmas.List.{map-append}
 use Rattle.health.specs.Rows.{row_of}
 use Rattle.health.specs.declared.row.Row.{Row}
 use Rattle.register.specs.declared.port.Port.{Port}
@@ -9,7 +9,7 @@ use Rattle.model.specs.Fitting.{opened}
 use Rattle.model.specs.Law.{Law}
 use Rattle.model.proofs.IndependentPolling.{independent_polling}
 use Rattle.subsystem.specs.Builders.{fitted_of}
-use Rattle.subsystem.specs.Responders.{responder_of, no_composite}
+use Rattle.subsystem.specs.Responders.{responder_of}
 use Rattle.subsystem.specs.States.{state_from}
 use Rattle.subsystem.proofs.OpenCases.{open_room, opened_is}
 use Rattle.subsystem.proofs.builder.SubsystemBuilder.open.Goals as goal
@@ -21,15 +21,13 @@ returns-in-Ok g c =
     let rows = c.args.rows.now in
     let after = c.clear_for_opening.new.rows in
     let e = c.in-Ok.ensures in
-    let responders : map responder_of (take b.responder_count c.responders_of_kinds.result) ≡ map no_composite (fitted_of b).kinds =
-    sym (take-map responder_of b.responder_count c.responders_of_kinds.result) ∙ ap (take b.responder_count) c.responders_of_kinds.ensures ∙ take-map no_composite b.responder_count b.kinds in
     let drive : List Port → Drive = λ ports. record { register = m; status = status_of c.initial_status.result; port_count = b.port_count; ports = ports } in
     let state : (rest : List Row) (ports : List Port)
-    → state_from (drive ports) (map responder_of (take b.responder_count c.responders_of_kinds.result)) (map row_of (after ++ rest)) ≡ opened (fitted_of b) m (map row_of (rows ++ rest)) ports =
+    → state_from (drive ports) (map responder_of c.responders_of_kinds.result.items) (map row_of (after ++ rest)) ≡ opened (fitted_of b) m (map row_of (rows ++ rest)) ports =
     λ rest ports.
-    ap₂ (λ status ws. state_from (record { register = m; status = status; port_count = b.port_count; ports = ports }) (map responder_of (take b.responder_count c.responders_of_kinds.result)) ws)
+    ap₂ (λ status ws. state_from (record { register = m; status = status; port_count = b.port_count; ports = ports }) (map responder_of c.responders_of_kinds.result.items) ws)
     c.initial_status.ensures (map-append row_of after rest)
-    ∙ opened_is (fitted_of b) m ports (map responder_of (take b.responder_count c.responders_of_kinds.result)) (map row_of rows) (map row_of rest) (map row_of after) responders
+    ∙ opened_is (fitted_of b) m ports (map responder_of c.responders_of_kinds.result.items) (map row_of rows) (map row_of rest) (map row_of after) c.responders_of_kinds.ensures
     (open_room (fitted_of b) m (map row_of rows) e.refused_without_controllers_responders_or_rows) e.clears_the_rows_in_use
     ∙ ap (λ ws. opened (fitted_of b) m ws ports) (sym (map-append row_of rows rest)) in
     record {

@@ -1,18 +1,19 @@
-use Rattle.std.proofs.Common.{Err, sym, ap, ◌∙◌}
+use Rattle.std.proofs.Common.{◌≡◌, ℕ, ◌<◌, List, get_or, Err, sym, ap, ◌∙◌, subst}
 use Rattle.std.proofs.lemmas.Result.{err_from_is_err_and}
 use Rattle.model.specs.ServiceRefusals.{responder_of_another_kind}
 use Rattle.subsystem.specs.Faults.{in_numbers, fault_refusal}
+use Rattle.subsystem.specs.declared.responder.Responder.{Responder}
 use Rattle.subsystem.specs.States.{responders_of}
 use Rattle.subsystem.specs.Admission.{admission}
 use Rattle.subsystem.proofs.Checks.{test_passed}
 use Rattle.subsystem.proofs.Admitting.{another_kind, rows_short, ports_short, last_test}
 use Rattle.subsystem.proofs.service.Subsystem.admit.Goals as goal
 
-pub returns-then-self-r : goal.returns-then-self-r
-returns-then-self-r c =
+pub returns-then-deref-r : goal.returns-then-deref-r
+returns-then-deref-r c =
     let x = c.args.self.now in
     ap (λ r. Err (responder_of_another_kind r)) (sym c.from-r.ensures)
-    ∙ another_kind x c.from-r.result c.args.lengths c.args.lent c.index-self-r.result c.if-r-self.false c.if-self-r.true
+    ∙ another_kind x c.from-r.result c.args.lengths c.args.lent c.index-deref-r.result (subst (λ (n : ℕ). c.from-r.result < n) c.len.ensures.value c.if-r-len.false) (subst (λ (l : List Responder). (get_or l c.from-r.result c.index-deref-r.result).kind ≡ c.args.lengths.kind → ⊥) c.deref.ensures.0 c.if-deref-r.true)
     ∙ ap (λ r. admission (responders_of x) x.port_count r c.args.lengths c.args.lent) c.from-r.ensures
 
 pub returns-in_err-check_length : goal.returns-in_err-check_length
@@ -21,7 +22,7 @@ returns-in_err-check_length c =
     let f = c.in_err-check_length.field-0.0 in
     let p = err_from_is_err_and c.from_residual.result c.from_residual.ensures.1 in
     ap in_numbers (p.1 ∙ ap Err p.2)
-    ∙ rows_short x c.from-r.result c.args.lengths c.args.lent c.index-self-r.result c.if-r-self.false c.if-self-r.false (fault_refusal f) c.in_err-check_length.ensures
+    ∙ rows_short x c.from-r.result c.args.lengths c.args.lent c.index-deref-r.result (subst (λ (n : ℕ). c.from-r.result < n) c.len.ensures.value c.if-r-len.false) (subst (λ (l : List Responder). (get_or l c.from-r.result c.index-deref-r.result).kind ≡ c.args.lengths.kind) c.deref.ensures.0 c.if-deref-r.false) (fault_refusal f) c.in_err-check_length.ensures
     ∙ ap (λ r. admission (responders_of x) x.port_count r c.args.lengths c.args.lent) c.from-r.ensures
 
 pub returns-in_err-check_length-2 : goal.returns-in_err-check_length-2
@@ -30,7 +31,7 @@ returns-in_err-check_length-2 c =
     let f = c.in_err-check_length-2.field-0.0 in
     let p = err_from_is_err_and c.from_residual-in_err-check_length-2.result c.from_residual-in_err-check_length-2.ensures.1 in
     ap in_numbers (p.1 ∙ ap Err p.2)
-    ∙ ports_short x c.from-r.result c.args.lengths c.args.lent c.index-self-r.result c.if-r-self.false c.if-self-r.false
+    ∙ ports_short x c.from-r.result c.args.lengths c.args.lent c.index-deref-r.result (subst (λ (n : ℕ). c.from-r.result < n) c.len.ensures.value c.if-r-len.false) (subst (λ (l : List Responder). (get_or l c.from-r.result c.index-deref-r.result).kind ≡ c.args.lengths.kind) c.deref.ensures.0 c.if-deref-r.false)
     (test_passed _ _ c.in_ok-check_length.ensures) (fault_refusal f) c.in_err-check_length-2.ensures
     ∙ ap (λ r. admission (responders_of x) x.port_count r c.args.lengths c.args.lent) c.from-r.ensures
 
@@ -38,6 +39,6 @@ pub returns : goal.returns
 returns c =
     let x = c.args.self.now in
     c.check_reply.ensures
-    ∙ last_test x c.from-r.result c.args.lengths c.args.lent c.index-self-r.result c.if-r-self.false c.if-self-r.false
+    ∙ last_test x c.from-r.result c.args.lengths c.args.lent c.index-deref-r.result (subst (λ (n : ℕ). c.from-r.result < n) c.len.ensures.value c.if-r-len.false) (subst (λ (l : List Responder). (get_or l c.from-r.result c.index-deref-r.result).kind ≡ c.args.lengths.kind) c.deref.ensures.0 c.if-deref-r.false)
     (test_passed _ _ c.in_ok-check_length.ensures) (test_passed _ _ c.in_ok-check_length-2.ensures)
     ∙ ap (λ r. admission (responders_of x) x.port_count r c.args.lengths c.args.lent) c.from-r.ensures

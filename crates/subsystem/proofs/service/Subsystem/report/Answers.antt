@@ -1,4 +1,4 @@
-use Rattle.std.proofs.Common.{◌≡◌, ◌*◌, ◌++◌, map, length, Ok, Err, sym, refl, ap, ◌∙◌, arith}
+use Rattle.std.proofs.Common.{◌≡◌, ◌*◌, ◌++◌, map, length, Ok, Err, sym, ap, ◌∙◌, arith}
 use Rattle.std.proofs.lemmas.Result.{err_from_is_err_and}
 use Rattle.std.proofs.lemmas.Bool.{ltb-false}
 use Rattle.health.specs.Rows.{row_of}
@@ -11,7 +11,7 @@ use Rattle.subsystem.specs.Responders.{responder_of}
 use Rattle.subsystem.specs.States.{state_from, drive_of, state_of}
 use Rattle.subsystem.proofs.Checks.{test_passed, by_needed}
 use Rattle.subsystem.proofs.Finding.{nth_below, present_at}
-use Rattle.subsystem.proofs.Reporting.{report_taken, report_short, report_unknown, report_accepted, report_granted, length_part, take_given_back, part_from_start}
+use Rattle.subsystem.proofs.Reporting.{report_taken, report_short, report_unknown, report_accepted, report_granted, given_back}
 use Rattle.subsystem.proofs.service.Subsystem.report.Goals as goal
 
 pub returns-in_err-check_length-clause-is_answered_and_done_as_the_model_says : goal.returns-in_err-check_length-clause-is_answered_and_done_as_the_model_says
@@ -27,14 +27,14 @@ returns-in_err-check_length-clause-is_answered_and_done_as_the_model_says g c =
     ap {B = Step} (λ r. record { answer = judged (in_numbers r); state = s }) same
     ∙ report_taken s (length rows) c.args.id c.args.new (Err (fault_refusal f))
     (report_short x m (rows ++ rest) rows ports c.args.id c.args.new (sym c.if-not-is_well_formed.ensures) (fault_refusal f)
-    (by_needed (length rows) _ _ (Err (fault_refusal f)) (c.needed.ensures ∙ (λ i. c.of-layout.ensures.for_the_responders i * c.of-layout.ensures.for_the_controllers i)) c.in_err-check_length.ensures))
+    (by_needed (length rows) _ _ (Err (fault_refusal f)) (c.needed.ensures ∙ (λ i. c.layout-layout.ensures.for_the_responders i * c.layout-layout.ensures.for_the_controllers i)) c.in_err-check_length.ensures))
 
 pub returns-in_default-clause-is_answered_and_done_as_the_model_says : goal.returns-in_default-clause-is_answered_and_done_as_the_model_says
 returns-in_default-clause-is_answered_and_done_as_the_model_says g c =
     let x = c.args.self.now in
     let m = g.R.Register.meaning c.args.register.now in
     let rows = c.args.rows.now in
-    let room = test_passed _ _ (by_needed (length rows) _ _ (Ok tt) (c.needed.ensures ∙ (λ i. c.of-layout.ensures.for_the_responders i * c.of-layout.ensures.for_the_controllers i)) c.in_ok-check_length.ensures) in
+    let room = test_passed _ _ (by_needed (length rows) _ _ (Ok tt) (c.needed.ensures ∙ (λ i. c.layout-layout.ensures.for_the_responders i * c.layout-layout.ensures.for_the_controllers i)) c.in_ok-check_length.ensures) in
     λ rest ports.
     report_taken (state_of x m (rows ++ rest) ports) (length rows) c.args.id c.args.new (Err (unknown_identifier c.args.id))
     (report_unknown x m (rows ++ rest) rows ports c.args.id c.args.new (sym c.if-not-is_well_formed.ensures) room c.in_default.ensures)
@@ -44,9 +44,8 @@ mark_responders-requires-clause-a_place_of_a_controller g c =
     let cs = (g.R.Register.meaning c.args.register.now).controllers in
     let found = c.in-Some.ensures in
     let rows = length c.args.rows.now in
-    let room = ltb-false _ _ (test_passed _ _ (by_needed rows _ _ (Ok tt) (c.needed.ensures ∙ (λ i. c.of-layout.ensures.for_the_responders i * c.of-layout.ensures.for_the_controllers i)) c.in_ok-check_length.ensures)) in
-    let many = length_part c.args.self.now.responder_count c.args.self.now.responders _ (omega arith) refl in
-    omega (arith, nth_below cs c.in-Some.found.place _ found.stands_there, c.of-layout.ensures.for_the_controllers)
+    let room = ltb-false _ _ (test_passed _ _ (by_needed rows _ _ (Ok tt) (c.needed.ensures ∙ (λ i. c.layout-layout.ensures.for_the_responders i * c.layout-layout.ensures.for_the_controllers i)) c.in_ok-check_length.ensures)) in
+    omega (arith, nth_below cs c.in-Some.found.place _ found.stands_there, c.layout-layout.ensures.for_the_controllers)
 
 pub returns-clause-is_answered_and_done_as_the_model_says : goal.returns-clause-is_answered_and_done_as_the_model_says
 returns-clause-is_answered_and_done_as_the_model_says g c =
@@ -57,15 +56,15 @@ returns-clause-is_answered_and_done_as_the_model_says g c =
     let place = c.in-Some.found.place in
     let controller = controller_of c.in-Some.found.controller in
     let part = c.mark_responders.new.responders in
-    let b = test_passed _ _ (by_needed (length rows) _ _ (Ok tt) (c.needed.ensures ∙ (λ i. c.of-layout.ensures.for_the_responders i * c.of-layout.ensures.for_the_controllers i)) c.in_ok-check_length.ensures) in
+    let b = test_passed _ _ (by_needed (length rows) _ _ (Ok tt) (c.needed.ensures ∙ (λ i. c.layout-layout.ensures.for_the_responders i * c.layout-layout.ensures.for_the_controllers i)) c.in_ok-check_length.ensures) in
     let marks = c.mark_responders.ensures in
     λ rest ports.
     ap {B = Step} (λ part. record { answer = accepted; state = state_from (drive_of x (g.R.Register.meaning c.renew.new.register) ports) (map responder_of part) (map row_of (c.mark_responders.new.rows ++ rest)) })
-    (take_given_back x.responder_count x.responders part (omega arith) c.mark_responders.auto.responders)
+    (given_back x.responders.items part (c.mark_responders.auto.responders ∙ ap length c.deref_mut.ensures.value))
     ∙ ap {B = Step} (λ s. record { answer = accepted; state = s })
-    (report_granted x m rows rest ports c.args.id c.args.new c.mark_responders.new.rows _ part (g.R.Register.meaning c.renew.new.register) place c.of-layout.result.controllers c.gained_flags.result.bits c.from_status.result.bits controller
+    (report_granted x m rows rest ports c.args.id c.args.new c.mark_responders.new.rows _ part (g.R.Register.meaning c.renew.new.register) place c.layout-layout.result.controllers c.gained_flags.result.bits c.from_status.result.bits controller
     (lawful_ascends 0 m.controllers (g.R.Register.holds_lawful_controllers c.args.register.now)) found.stands_there found.has_the_id
-    c.of-layout.ensures.for_the_controllers c.gained_flags.ensures c.from_status.ensures (part_from_start x.responder_count x.responders) c.mark_responders.auto.responders c.mark_responders.auto.rows
+    c.layout-layout.ensures.for_the_controllers c.gained_flags.ensures c.from_status.ensures c.deref_mut.ensures.value c.mark_responders.auto.responders c.mark_responders.auto.rows
     (ltb-false _ _ b) c.renew.ensures marks.marks_each marks.leaves_the_spare_rows)
     ∙ report_taken (state_of x m (rows ++ rest) ports) (length rows) c.args.id c.args.new (Ok tt)
     (report_accepted x m (rows ++ rest) rows ports c.args.id c.args.new (sym c.if-not-is_well_formed.ensures) b (present_at c.args.id m.controllers place controller found.stands_there found.has_the_id))

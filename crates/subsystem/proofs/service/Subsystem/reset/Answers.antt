@@ -1,4 +1,7 @@
-use Rattle.std.proofs.Common.{◌≡◌, ◌-◌, ◌*◌, ◌++◌, map, length, get_or, replicate, Ok, Err, sym, ap, ◌∙◌, arith}
+use borrow.Rule.Slice.PartMut.{put_mid}
+use Rattle.std.specs.List.{refill}
+use Rattle.std.proofs.lemmas.List.{length-set}
+use Rattle.std.proofs.Common.{◌≡◌, ℕ, ◌-◌, ◌*◌, ◌<◌, ◌++◌, map, length, get_or, set, subst, replicate, Ok, Err, sym, ap, ◌∙◌, arith}
 use Rattle.std.proofs.lemmas.Result.{err_from_is_err_and}
 use Rattle.std.proofs.lemmas.Bool.{ltb-false}
 use Rattle.health.specs.Rows.{row_of, clear_row}
@@ -8,15 +11,16 @@ use Rattle.model.specs.Calls.{reset, accepted, judged, reset_responder, Step, st
 use Rattle.subsystem.specs.Faults.{in_numbers, fault_refusal}
 use Rattle.subsystem.specs.Responders.{responder_of}
 use Rattle.subsystem.specs.declared.responder.Responder.{Responder}
-use Rattle.subsystem.specs.States.{with_its_rows, state_of}
+use Rattle.subsystem.specs.States.{with_its_rows, state_from, drive_of, state_of}
 use Rattle.subsystem.proofs.Checks.{test_passed, by_needed}
 use Rattle.subsystem.proofs.OneResponder.{same_change, responder_there, responder_exists, responder_absent, responder_replaced, length_lent, own_rows_length}
 use Rattle.subsystem.proofs.Resetting.{reset_taken, reset_absent, reset_tested, is_reset}
+use Rattle.subsystem.proofs.Reporting.{given_back}
 use Rattle.subsystem.proofs.RowGroups.{own_rows_lent}
 use Rattle.subsystem.proofs.service.Subsystem.reset.Goals as goal
 
-pub returns-then-r-self-clause-is_answered_and_done_as_the_model_says : goal.returns-then-r-self-clause-is_answered_and_done_as_the_model_says
-returns-then-r-self-clause-is_answered_and_done_as_the_model_says g c =
+pub returns-then-r-len-clause-is_answered_and_done_as_the_model_says : goal.returns-then-r-len-clause-is_answered_and_done_as_the_model_says
+returns-then-r-len-clause-is_answered_and_done_as_the_model_says g c =
     let x = c.args.self.now in
     let m = g.R.Register.meaning c.args.register.now in
     let rows = c.args.rows.now in
@@ -39,7 +43,7 @@ returns-in_err-check_length-clause-is_answered_and_done_as_the_model_says g c =
     ∙ reset_taken s c.args.responder (length rows) (Err (fault_refusal f))
     (let y = responder_exists x m (rows ++ rest) ports c.args.responder (omega (arith, c.from-r.ensures)) in
     reset_tested x m (rows ++ rest) ports c.args.responder (length rows) y.0 y.1 (Err (fault_refusal f))
-    (by_needed (length rows) _ _ (Err (fault_refusal f)) (c.needed.ensures ∙ (λ i. c.of-layout.ensures.for_the_responders i * c.of-layout.ensures.for_the_controllers i)) c.in_err-check_length.ensures))
+    (by_needed (length rows) _ _ (Err (fault_refusal f)) (c.needed.ensures ∙ (λ i. c.layout-layout.ensures.for_the_responders i * c.layout-layout.ensures.for_the_controllers i)) c.in_err-check_length.ensures))
 
 pub returns-clause-is_answered_and_done_as_the_model_says : goal.returns-clause-is_answered_and_done_as_the_model_says
 returns-clause-is_answered_and_done_as_the_model_says g c =
@@ -50,21 +54,28 @@ returns-clause-is_answered_and_done_as_the_model_says g c =
     let k = c.rows_of.result.start in
     let n = c.rows_of.result.end - k in
     let part = c.clear_rows.new.rows in
-    let old = c.index-self-r.result in
-    let kind = (get_or x.responders r old).kind in
-    let new : Responder = record { kind = kind; composite = c.none.result } in
-    let en : n ≡ length m.controllers = omega (arith, c.rows_of.ensures.begins, c.rows_of.ensures.ends, c.of-layout.ensures.for_the_controllers) in
-    let ek : k ≡ r * length m.controllers = c.rows_of.ensures.begins ∙ ap (λ v. r * v) c.of-layout.ensures.for_the_controllers in
-    let tested = by_needed (length rows) _ _ (Ok tt) (c.needed.ensures ∙ (λ i. c.of-layout.ensures.for_the_responders i * c.of-layout.ensures.for_the_controllers i)) c.in_ok-check_length.ensures in
+    let old = c.index-deref_mut-r.result in
+    let items = x.responders.items in
+    let kind = (get_or items r old).kind in
+    let cleared_flags : Responder → Responder = λ y. record { kind = y.kind; composite = c.none.result } in
+    let new = cleared_flags (get_or items r old) in
+    let lent : c.deref_mut.result.now ≡ items = c.deref_mut.ensures.value in
+    let back : refill (length items) items (set c.deref_mut.result.now r (cleared_flags (get_or c.deref_mut.result.now r old))) ≡ set items r new =
+    (λ i. refill (length items) items (set (lent i) r (cleared_flags (get_or (lent i) r old)))) ∙ given_back items (set items r new) (length-set items r new) in
+    let in_use = subst (λ (v : ℕ). r < v) c.len.ensures.value c.if-r-len.false in
+    let en : n ≡ length m.controllers = omega (arith, c.rows_of.ensures.begins, c.rows_of.ensures.ends, c.layout-layout.ensures.for_the_controllers) in
+    let ek : k ≡ r * length m.controllers = c.rows_of.ensures.begins ∙ ap (λ v. r * v) c.layout-layout.ensures.for_the_controllers in
+    let tested = by_needed (length rows) _ _ (Ok tt) (c.needed.ensures ∙ (λ i. c.layout-layout.ensures.for_the_responders i * c.layout-layout.ensures.for_the_controllers i)) c.in_ok-check_length.ensures in
     let room = ltb-false _ _ (test_passed _ _ tested) in
-    let within = own_rows_lent r x.responder_count (length m.controllers) k (length rows) c.if-r-self.false ek room in
+    let within = own_rows_lent r (length x.responders.items) (length m.controllers) k (length rows) in_use ek room in
     let long : length part ≡ length m.controllers = length_lent k (length m.controllers) n rows part en within c.clear_rows.auto.rows in
     let cleared = c.clear_rows.ensures ∙ ap (λ v. replicate v clear_row) (sym c.clear_rows.auto.rows ∙ long) in
     λ rest ports.
     let s = state_of x m (rows ++ rest) ports in
-    ap {B = Step} (λ v. record { answer = accepted; state = v }) (responder_replaced x m rows part rest ports r k n new c.if-r-self.false ek en room long
-    ∙ ap (with_responders s) (same_change s.responders r _ (λ _. with_its_rows (responder_of new) (map row_of part)) reset_responder (responder_there x m (rows ++ rest) ports r old c.if-r-self.false)
-    (is_reset (responder_of new) (responder_of (get_or x.responders r old)) (map row_of part) _ (length m.controllers) (ap (λ v. record { kind = kind; composite = v }) c.none.ensures) cleared
+    ap {B = Step} (λ l. record { answer = accepted; state = state_from (drive_of x m ports) (map responder_of l) (map row_of (put_mid k n rows part ++ rest)) }) back
+    ∙ ap {B = Step} (λ v. record { answer = accepted; state = v }) (responder_replaced x m rows part rest ports r k n new in_use ek en room long
+    ∙ ap (with_responders s) (same_change s.responders r _ (λ _. with_its_rows (responder_of new) (map row_of part)) reset_responder (responder_there x m (rows ++ rest) ports r old in_use)
+    (is_reset (responder_of new) (responder_of (get_or x.responders.items r old)) (map row_of part) _ (length m.controllers) (ap (λ v. record { kind = kind; composite = v }) c.none.ensures) cleared
     (own_rows_length (length m.controllers) r k rows rest ek within))))
-    ∙ reset_taken s r (length rows) (Ok tt) (let y = responder_exists x m (rows ++ rest) ports r c.if-r-self.false in reset_tested x m (rows ++ rest) ports r (length rows) y.0 y.1 (Ok tt) tested)
+    ∙ reset_taken s r (length rows) (Ok tt) (let y = responder_exists x m (rows ++ rest) ports r in_use in reset_tested x m (rows ++ rest) ports r (length rows) y.0 y.1 (Ok tt) tested)
     ∙ ap (λ v. step s (reset v (length rows))) c.from-r.ensures

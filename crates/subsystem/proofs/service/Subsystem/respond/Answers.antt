@@ -1,6 +1,7 @@
-use Rattle.std.proofs.Common.{◌≡◌, ℕ, ◌-◌, ◌*◌, ◌<◌, ◌++◌, map, length, get_or, drop, sym, refl, ap, ◌∙◌, subst, arith}
-use borrow.Rule.Slice.PartMut.{mid_of}
-use Rattle.std.proofs.lemmas.List.{length-drop, get_or_default}
+use Rattle.std.proofs.Common.{◌≡◌, ℕ, ◌-◌, ◌*◌, ◌<◌, ◌++◌, map, length, get_or, drop, sym, refl, ap, ◌∙◌, subst, arith, List, set}
+use borrow.Rule.Slice.PartMut.{mid_of, put_mid}
+use Rattle.std.specs.List.{refill}
+use Rattle.std.proofs.lemmas.List.{length-drop, length-set, get_or_default}
 use Rattle.health.specs.Rows.{row_of}
 use Rattle.polls.specs.Shown.{status_of}
 use Rattle.model.specs.State.{with_responders}
@@ -8,8 +9,9 @@ use Rattle.model.specs.Requests.{served}
 use Rattle.model.specs.Calls.{at_place}
 use Rattle.subsystem.specs.Responders.{responder_of}
 use Rattle.subsystem.specs.declared.responder.Responder.{Responder}
-use Rattle.subsystem.specs.States.{with_its_rows, state_of}
+use Rattle.subsystem.specs.States.{with_its_rows, state_from, drive_of, state_of}
 use Rattle.subsystem.specs.Replies.{ReplyIs, drive_shown, responder_with}
+use Rattle.subsystem.proofs.Reporting.{given_back}
 use Rattle.subsystem.proofs.RowGroups.{own_rows_lent}
 use Rattle.subsystem.proofs.OneResponder.{responder_there, responder_replaced, length_lent}
 use Rattle.subsystem.proofs.Responding.{same_served, data_fits, responds, ports_shown, own_rows_are}
@@ -42,18 +44,19 @@ returns g c = λ rest more x there.
     let n = length m.controllers in
     let first = c.rows_of.result.start in
     let count = c.rows_of.result.end - first in
-    let old = get_or self.responders r c.index-self-responder.result in
+    let old = get_or self.responders.items r c.index-deref-responder.result in
     let answered = c.answer_behind_head-answered.result in
     let part = c.answer_behind_head-answered.new.own in
     let with_flags : Responder → Responder = λ y. record { kind = y.kind; composite = answered.composite } in
-    let stands : r < length self.responders = let l = self.at_most_8_responders in let e = self.eight_responders in let u = c.requires.a_responder_in_use in omega arith in
+    let items = self.responders.items in
+    let stands : r < length items = c.requires.a_responder_in_use in
     let kind = old.kind in
-    let en : count ≡ n = omega (arith, c.rows_of.ensures.begins, c.rows_of.ensures.ends, c.of.ensures.for_the_controllers) in
-    let ek : first ≡ r * n = c.rows_of.ensures.begins ∙ ap (λ v. r * v) c.of.ensures.for_the_controllers in
-    let within = own_rows_lent r self.responder_count n first (length rows) c.requires.a_responder_in_use ek c.requires.rows_for_all in
+    let en : count ≡ n = omega (arith, c.rows_of.ensures.begins, c.rows_of.ensures.ends, c.layout.ensures.for_the_controllers) in
+    let ek : first ≡ r * n = c.rows_of.ensures.begins ∙ ap (λ v. r * v) c.layout.ensures.for_the_controllers in
+    let within = own_rows_lent r (length self.responders.items) n first (length rows) c.requires.a_responder_in_use ek c.requires.rows_for_all in
     let lent = map row_of (mid_of first count rows) in
     let used = mid_of 0 (self.port_count - 0) ports in
-    let found = responder_there self m (rows ++ rest) (ports ++ more) r c.index-self-responder.result c.requires.a_responder_in_use in
+    let found = responder_there self m (rows ++ rest) (ports ++ more) r c.index-deref-responder.result c.requires.a_responder_in_use in
     let is_x : responder_with kind old.composite.bits lent ≡ x =
     ap (responder_with kind old.composite.bits) (sym (own_rows_are n r first count rows rest ek en within)) ∙ (let e = sym found ∙ there in cc) in
     let d = drive_shown m (status_of self.status) used in
@@ -63,9 +66,16 @@ returns g c = λ rest more x there.
     ∙ ap (λ y. served s.drive y c.args.asked) is_x in
     let k = g.C.Carrier.meaning in
     let head : c.lengths-head.result.head ≡ k.head_length = ap (λ l. l.head) c.lengths-head.ensures in
-    let is = subst (λ (h : ℕ). ReplyIs v kind answered (map row_of part) (drop h c.args.reply.now) (drop h c.answer_behind_head-answered.new.reply)) head (c.answer_behind_head-answered.ensures kind) in
+    let answered_so = subst (λ (l : List Responder). ReplyIs (served d (responder_with kind (get_or l r c.index-deref-responder.result).composite.bits lent) c.args.asked) kind answered (map row_of part)
+    (drop c.lengths-head.result.head c.args.reply.now) (drop c.lengths-head.result.head c.answer_behind_head-answered.new.reply)) c.deref.ensures.0 (c.answer_behind_head-answered.ensures kind) in
+    let is = subst (λ (h : ℕ). ReplyIs v kind answered (map row_of part) (drop h c.args.reply.now) (drop h c.answer_behind_head-answered.new.reply)) head answered_so in
+    let given = c.deref_mut.ensures.value in
+    let changed = with_flags (get_or items r c.index-deref_mut-responder.result) in
+    let back : refill (length items) items (set c.deref_mut.result.now r (with_flags (get_or c.deref_mut.result.now r c.index-deref_mut-responder.result))) ≡ set items r changed =
+    (λ i. refill (length items) items (set (given i) r (with_flags (get_or (given i) r c.index-deref_mut-responder.result)))) ∙ given_back items (set items r changed) (length-set items r changed) in
     let long = length_lent first n count rows part en within c.answer_behind_head-answered.auto.own in
     responds k s r x c.args.asked v answered kind (map row_of part) _ c.args.reply.now c.answer_behind_head-answered.new.reply c.write_head_before.new.reply _ same is
     c.write_head_before.ensures.answers_the_length c.write_head_before.ensures.writes_the_head
-    (responder_replaced self m rows part rest (ports ++ more) r first count (with_flags (get_or self.responders r c.index-self-responder-2.result)) c.requires.a_responder_in_use ek en c.requires.rows_for_all long
-    ∙ ap (λ y. with_responders s (at_place s.responders r (λ _. with_its_rows (responder_of (with_flags y)) (map row_of part)))) (get_or_default self.responders r _ _ stands))
+    (ap (λ l. state_from (drive_of self m (ports ++ more)) (map responder_of l) (map row_of (put_mid first count rows part ++ rest))) back
+    ∙ responder_replaced self m rows part rest (ports ++ more) r first count changed c.requires.a_responder_in_use ek en c.requires.rows_for_all long
+    ∙ ap (λ y. with_responders s (at_place s.responders r (λ _. with_its_rows (responder_of (with_flags y)) (map row_of part)))) (get_or_default self.responders.items r _ _ stands))

@@ -32,7 +32,7 @@ returns-in_err-admit-clause-is_answered_and_done_as_the_model_says g c =
     let s = state_of x m (rows ++ rest) (ports ++ more) in
     ap {B = Exchange} (λ r. record { answer = in_numbers r; reply = reply; state = s }) same
     ∙ request_refused s c.args.responder k (length rows) (length ports) c.args.message.now (length reply) reply (fault_refusal f)
-    (not_admitted x m (rows ++ rest) (ports ++ more) c.args.responder k c.args.message.now lent (c.needed.ensures ∙ (λ i. c.of.ensures.for_the_responders i * c.of.ensures.for_the_controllers i)) (fault_refusal f) tested)
+    (not_admitted x m (rows ++ rest) (ports ++ more) c.args.responder k c.args.message.now lent (c.needed.ensures ∙ (λ i. c.layout.ensures.for_the_responders i * c.layout.ensures.for_the_controllers i)) (fault_refusal f) tested)
 
 pub returns-in_err-asked-clause-is_answered_and_done_as_the_model_says : goal.returns-in_err-asked-clause-is_answered_and_done_as_the_model_says
 returns-in_err-asked-clause-is_answered_and_done_as_the_model_says g c =
@@ -54,8 +54,8 @@ returns-in_err-asked-clause-is_answered_and_done_as_the_model_says g c =
     let s = state_of x m (rows ++ rest) (ports ++ more) in
     ap {B = Exchange} (λ r. record { answer = r; reply = reply; state = s }) same
     ∙ request_refused s c.args.responder k (length rows) (length ports) c.args.message.now (length reply) reply (refusal f)
-    (admitted_then x m (rows ++ rest) (ports ++ more) c.args.responder k c.args.message.now lent (c.needed.ensures ∙ (λ i. c.of.ensures.for_the_responders i * c.of.ensures.for_the_controllers i)) a.responder a.there tested
-    ∙ ap (reply_to s.drive (own x m (rows ++ rest) (ports ++ more) c.args.responder k c.args.message.now lent (c.needed.ensures ∙ (λ i. c.of.ensures.for_the_responders i * c.of.ensures.for_the_controllers i)) a.responder a.there) k) (sym read))
+    (admitted_then x m (rows ++ rest) (ports ++ more) c.args.responder k c.args.message.now lent (c.needed.ensures ∙ (λ i. c.layout.ensures.for_the_responders i * c.layout.ensures.for_the_controllers i)) a.responder a.there tested
+    ∙ ap (reply_to s.drive (own x m (rows ++ rest) (ports ++ more) c.args.responder k c.args.message.now lent (c.needed.ensures ∙ (λ i. c.layout.ensures.for_the_responders i * c.layout.ensures.for_the_controllers i)) a.responder a.there) k) (sym read))
 
 pub respond-requires-clause-a_responder_in_use : goal.respond-requires-clause-a_responder_in_use
 respond-requires-clause-a_responder_in_use g c =
@@ -89,8 +89,8 @@ returns-clause-is_answered_and_done_as_the_model_says g c =
     let read : Ok asked ≡ k.read_request c.args.message.now = c.in_ok-asked.ensures in
     λ rest more.
     let s = state_of x m (rows ++ rest) (ports ++ more) in
-    let y = own x m (rows ++ rest) (ports ++ more) r k c.args.message.now lent (c.needed.ensures ∙ (λ i. c.of.ensures.for_the_responders i * c.of.ensures.for_the_controllers i)) a.responder a.there in
-    let there = own_there x m (rows ++ rest) (ports ++ more) r k c.args.message.now lent (c.needed.ensures ∙ (λ i. c.of.ensures.for_the_responders i * c.of.ensures.for_the_controllers i)) a.responder a.there in
+    let y = own x m (rows ++ rest) (ports ++ more) r k c.args.message.now lent (c.needed.ensures ∙ (λ i. c.layout.ensures.for_the_responders i * c.layout.ensures.for_the_controllers i)) a.responder a.there in
+    let there = own_there x m (rows ++ rest) (ports ++ more) r k c.args.message.now lent (c.needed.ensures ∙ (λ i. c.layout.ensures.for_the_responders i * c.layout.ensures.for_the_controllers i)) a.responder a.there in
     request_granted s r k (length rows) (length ports) c.args.message.now (length reply) reply y asked _ _ _ (c.respond.ensures rest more y there)
-    (admitted_then x m (rows ++ rest) (ports ++ more) r k c.args.message.now lent (c.needed.ensures ∙ (λ i. c.of.ensures.for_the_responders i * c.of.ensures.for_the_controllers i)) a.responder a.there tested ∙ ap (reply_to s.drive y k) (sym read))
+    (admitted_then x m (rows ++ rest) (ports ++ more) r k c.args.message.now lent (c.needed.ensures ∙ (λ i. c.layout.ensures.for_the_responders i * c.layout.ensures.for_the_controllers i)) a.responder a.there tested ∙ ap (reply_to s.drive y k) (sym read))
     ∙ ap (λ n. exchanged (step s (request n k (length rows) (length ports) c.args.message.now (length reply))) reply) c.from.ensures
