@@ -38,7 +38,7 @@ impl fmt::Display for Grant<'_> {
 // Why a call is not granted.
 #[derive(Clone, Copy, Debug, Error)]
 pub enum CallFault {
-    #[error("{numbers}", numbers = RefusalNumbers { fault: *.0 })]
+    #[error("{numbers}", numbers = RefusalNumbers {fault: *.0})]
     Refused(#[from] Fault),
     // out of phase
     #[error("misuse")]

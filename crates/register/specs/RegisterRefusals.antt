@@ -1,5 +1,5 @@
 -- The refusals of a register, in numbers.
-use Rattle.std.specs.Prelude.{ℕ, Ok, Err, Result}
+use Rattle.std.specs.Prelude.{ℕ, Result}
 use Rattle.wire.specs.Refusals.{Refusal, with_refusals}
 use Rattle.table.specs.declared.fault.TableFault.{TableFault}
 use Rattle.table.specs.declared.fault.TableFault.TheVariants as table
