@@ -210,10 +210,6 @@ module _ (p : ControllerHealthPoll) where
                 ∙ ap (λ k. whole.bytes ++ drop (16 * k) space) count;
           }
 
-    pub no_more_entries : (place found : ℕ) → n ≤ found → left place found ≡ with_none (drop place ws)
-    no_more_entries place found h =
-        let z : n - found ≡ 0 = omega arith in ap (λ k. of_first k (drop place cs) (drop place ws)) z ∙ ends_at_0 (drop place cs) (drop place ws)
-
     pub no_more_rows : (place found : ℕ) → length ws ≤ place → left place found ≡ with_none (drop place ws)
     no_more_rows place found h =
         let e = drop_all place ws h in

@@ -31,7 +31,7 @@ state_from d hs ws = record {
 abbrev pub drive_of : Subsystem → RegisterValues → List Port → Drive
 drive_of x m ports = record { register = m; status = status_of x.status; port_count = x.port_count; ports = ports }
 
--- the Responders of the code that are in use
+-- the Responders of the code
 abbrev pub responders_of : Subsystem → List ResponderValues
 responders_of x = map responder_of x.responders.items
 

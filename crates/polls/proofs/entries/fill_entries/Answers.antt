@@ -2,12 +2,12 @@ use Rattle.std.proofs.Common.{◌≡◌, ℕ, ◌+◌, ◌*◌, ◌<◌, ◌≤�
 use Rattle.std.specs.Option.{option_map}
 use Rattle.std.specs.List.{slice_get}
 use Rattle.std.proofs.lemmas.List.{length-map, map-set}
-use Rattle.std.proofs.lemmas.Bool.{ltb-true, ltb-false}
+use Rattle.std.proofs.lemmas.Bool.{ltb-true}
 use Rattle.health.specs.Rows.{row_of}
 use Rattle.commands.specs.ControllerData.{entry_bytes}
 use Rattle.register.specs.Controllers.{controller_of}
 use Rattle.model.specs.Requests.{entry_for}
-use Rattle.polls.proofs.Entering.{Going, begin, skip, return_it, ended, no_more_entries, no_more_rows, no_more_controllers, read_row, written_front, written_behind}
+use Rattle.polls.proofs.Entering.{Going, begin, skip, return_it, ended, no_more_rows, no_more_controllers, read_row, written_front, written_behind}
 use Rattle.polls.proofs.entries.fill_entries.Goals as goal
 use Rattle.polls.proofs.entries.fill_entries.Goals.{then-qualifies, else-qualifies}
 
@@ -53,16 +53,6 @@ returns-in_default g c =
     let n = c.args.poll.maxrent + 1 in
     let e = ended c.args.poll n cs ws c.args.space.now c.loop-place.place c.loop-place.found (map row_of c.loop-place.rows) c.loop-place.space c.loop-place.invariant
     (no_more_controllers c.args.poll n cs ws c.args.space.now c.loop-place.place c.loop-place.found (sym c.in_default.ensures)) in
-    record { counts_those_returned = e.counts; clears_those_returned_and_no_other = e.leaves_rows; writes_their_entries_and_no_other_byte = e.writes }
-
-pub returns-then-not-may_return_more : goal.returns-then-not-may_return_more
-returns-then-not-may_return_more g c =
-    let cs = (g.R.Register.meaning c.args.register.now).controllers in
-    let ws = map row_of c.args.rows.now in
-    let n = c.args.poll.maxrent + 1 in
-    let h = ltb-false c.loop-place.found n (sym c.if-not-may_return_more.ensures) in
-    let e = ended c.args.poll n cs ws c.args.space.now c.loop-place.place c.loop-place.found (map row_of c.loop-place.rows) c.loop-place.space c.loop-place.invariant
-    (no_more_entries c.args.poll n cs ws c.args.space.now c.loop-place.place c.loop-place.found h) in
     record { counts_those_returned = e.counts; clears_those_returned_and_no_other = e.leaves_rows; writes_their_entries_and_no_other_byte = e.writes }
 
 pub returns-after-loop-place : goal.returns-after-loop-place

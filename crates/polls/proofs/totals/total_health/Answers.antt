@@ -2,7 +2,6 @@ use Rattle.std.proofs.Common.{◌≡◌, ℕ, ◌-◌, ◌<◌, max, List, drop,
 use lib.Bits.{bit_or}
 use Rattle.std.specs.Option.{option_map}
 use Rattle.std.specs.List.{slice_get}
-use Rattle.std.proofs.lemmas.List.{at_drop_all}
 use Rattle.health.specs.Values.{HealthValues}
 use Rattle.register.specs.Controllers.{ControllerValues, controller_of}
 use Rattle.model.specs.Requests.{over}
@@ -13,13 +12,6 @@ use Rattle.polls.proofs.totals.total_health.Goals as goal
 joined : (f : ℕ → ℕ → ℕ) (field : HealthValues → ℕ) (cs : List ControllerValues) (k total new : ℕ) (c : ControllerValues) → 0 < k
     → slice_get cs (k - 1) ≡ Some c → total ≡ over f field (drop k cs) → new ≡ f (field c.health) total → new ≡ over f field (drop (k - 1) cs)
 joined f field cs k total new c h e t n = n ∙ ap (f (field c.health)) t ∙ sym (ap (over f field) (drop_last_nth cs k c h e))
-
-pub loop-place-init : goal.loop-place-init
-loop-place-init g c =
-    let cs = (g.R.Register.meaning c.args.register.now).controllers in
-    let none : (f : ℕ → ℕ → ℕ) (field : HealthValues → ℕ) → 0 ≡ over f field (drop c.len-place.result cs) =
-    λ f field. sym (at_drop_all (over f field) cs _ (omega (arith, c.len-place.ensures))) in
-    let z = c.default-totals.ensures in (z.0 ∙ none bit_or _, z.1.0 ∙ none max _, z.1.1 ∙ none max _)
 
 pub loop-place-preserved-in-Some : goal.loop-place-preserved-in-Some
 loop-place-preserved-in-Some g c =
@@ -37,16 +29,3 @@ pub loop-place-preserved : goal.loop-place-preserved
 loop-place-preserved g c =
     let cs = (g.R.Register.meaning c.args.register.now).controllers in
     absurd (nth_within cs (c.loop-place.place - 1) (omega (arith, c.len-place.ensures)) (sym c.in_default.ensures))
-
-pub returns : goal.returns
-returns g c =
-    let cs = (g.R.Register.meaning c.args.register.now).controllers in
-    let z : c.loop-place.place ≡ 0 = omega arith in
-    let i = c.loop-place.invariant in
-    let all : (f : ℕ → ℕ → ℕ) (field : HealthValues → ℕ) → over f field (drop c.loop-place.place cs) ≡ over f field cs =
-    λ f field. ap (λ k. over f field (drop k cs)) z in
-    record {
-      joins_all_critical_warnings = i.0 ∙ all bit_or _;
-      takes_the_warmest = i.1 ∙ all max _;
-      takes_the_most_used = i.2 ∙ all max _;
-    }
