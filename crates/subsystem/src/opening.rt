@@ -58,6 +58,7 @@ pub(crate) fn clear_for_opening<R: Register>(
 pub(crate) fn responders_of_kinds(kinds: &ArrayVec<u8, 8>) -> ArrayVec<Responder, 8>
     ensures { map responder_of result.items ≡ map no_composite kinds.now.items }
 {
+    // collect asks for an allocator, and extend answers a Result: a push that is proved to have room is plainer.
     let mut responders = ArrayVec::new();
     for kind in kinds.iter() {
         responders.push(Responder::new(*kind));

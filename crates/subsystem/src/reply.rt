@@ -12,6 +12,7 @@ use wire::{Carrier, Request};
 
 impl<R: Register> Polled<'_, R> {
     // Answers a request, with the data at the front of the memory.
+    // A method of its own with a `let .. else`: through `unwrap`, or of a part of a slice, nothing is known of the memory afterwards.
     fn answer_in(&self, own: &mut [Row], asked: Request, memory: &mut [u8]) -> Answered
         requires { 4080 ≤ length memory.old }
         ensures { (kind : ℕ) → ReplyIs (served (drive_shown (R.Register.meaning self.now.register.now) (status_of self.now.status) self.now.ports.now) (responder_with kind self.now.composite.bits (map row_of own.old)) asked) kind result (map row_of own.new) memory.old memory.new }

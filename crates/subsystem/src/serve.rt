@@ -75,6 +75,7 @@ impl Subsystem {
         };
         let own = &mut rows[self.layout(register).rows_of(responder)];
         let answered = polled.answer_behind_head(own, asked, head, reply);
+        // No `&mut` to the Responder across the call: the borrow checker covers none beside reads of the other fields.
         self.responders[responder].composite = answered.composite;
         write_head_before::<C>(asked, answered, reply)
     }
