@@ -1,7 +1,7 @@
 -- Words of which no bit stands outside a mask, and what the masks of this crate keep.
-use Rattle.std.proofs.Common.{◌≡◌, ℕ, zero, suc, ◌+◌, ◌-◌, ◌*◌, ◌/◌, ◌%◌, ◌^◌, ◌<◌, ◌≤◌, min, sym, ap, ◌∙◌, pow-suc, arith}
+use Rattle.std.proofs.Common.{◌≡◌, ℕ, zero, suc, ◌+◌, ◌-◌, ◌*◌, ◌/◌, ◌%◌, ◌^◌, ◌<◌, min, sym, ap, ◌∙◌, pow-suc, arith}
 use lib.Bits.{bit_and, bit_or, and_step, and_high, and_block, and_mask, and_self}
-use Rattle.std.proofs.lemmas.Nat.{pow_pos, shr_split, and_assoc, and_comm, and_le_r}
+use Rattle.std.proofs.lemmas.Nat.{pow_pos, shr_split, and_assoc, and_comm}
 use Rattle.std.proofs.lemmas.Nat.Bits.{bit_at_and, bit_at_or, same_from_bits}
 use Rattle.health.specs.Words.{without}
 use Rattle.health.specs.Flags.{named_flags}
@@ -17,9 +17,6 @@ pub mask_of_either : (a b m : ℕ) → bit_and a m ≡ a → bit_and b m ≡ b �
 mask_of_either a b m h k =
     same_from_bits (bit_and (bit_or a b) m) (bit_or a b)
     (λ i. omega (arith, bit_at_and (bit_or a b) m i, bit_at_or a b i, bit_at_and a m i, bit_at_and b m i, ap (λ n. n / 2 ^ i % 2) h, ap (λ n. n / 2 ^ i % 2) k))
-
-pub within_mask : (a m : ℕ) → bit_and a m ≡ a → a ≤ m
-within_mask a m h = omega (arith, and_le_r a m)
 
 -- a word of k bits is what it shares with another and what it shares with the other's complement
 and_complement : (k a b : ℕ) → a < 2 ^ k → b < 2 ^ k → bit_and a b + bit_and a (2 ^ k - 1 - b) ≡ a
@@ -51,7 +48,17 @@ events_mask n = and_high n 3 6
 pub status_mask : (n : ℕ) → bit_and n 0x01ff ≡ n % 2 ^ 9
 status_mask n = and_mask n 9
 
--- so a word of flags has no other bit, and a status no bit above 8
+-- what no bit outside a mask says: bits 3, 14 and 15 of changed flags are clear, bits 5:0 and 15:9 of status events, bits 15:9 of a status
+pub flags_clear : (n : ℕ) → bit_and n 0x3ff7 ≡ n → (n < 2 ^ 14) × (n / 2 ^ 3 % 2 ≡ 0)
+flags_clear n h = let e = sym (flags_mask n) ∙ h in (omega arith, omega arith)
+
+pub events_clear : (n : ℕ) → bit_and n 0x01c0 ≡ n → (n < 2 ^ 9) × (n % 2 ^ 6 ≡ 0)
+events_clear n h = let e = sym (events_mask n) ∙ h in (omega arith, omega arith)
+
+pub status_clear : (n : ℕ) → bit_and n 0x01ff ≡ n → n < 2 ^ 9
+status_clear n h = let e = sym (status_mask n) ∙ h in omega arith
+
+-- so a word of flags is the word of its named flags, and a status is whole in nine bits
 pub flags_are_named : (n : ℕ) → bit_and n 0x3ff7 ≡ n → named_flags n ≡ n
 flags_are_named n h = sym (flags_mask n) ∙ h
 
