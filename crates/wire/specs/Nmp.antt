@@ -1,5 +1,5 @@
 -- The NVMe-MI Message Parameters byte (NMP): bit 7 is ROR (0 request, 1 reply), bits 6:3 are the message type, bit 0 is the CSI.
-use Rattle.std.specs.Prelude.{ℕ, ◌/◌, ◌%◌, Bool, ◌&&◌, ◌==◌}
+use Rattle.std.specs.Prelude.{ℕ, ◌/◌, ◌%◌, Bool, if◌then◌else◌, ◌&&◌, ◌==◌}
 use Rattle.wire.specs.declared.nmp.Ror.{Ror}
 use Rattle.wire.specs.declared.nmp.Ror.TheVariants.{Request, Reply}
 
@@ -15,6 +15,11 @@ message_type nmp = nmp / 8 % 16
 abbrev pub ror_bit : Ror → ℕ
 ror_bit Request = 0
 ror_bit Reply = 1
+
+-- the byte of an NVMe-MI command, with tag 1 or 0
+abbrev pub nmp_of : Ror → Bool → ℕ
+nmp_of Request tag = if tag then 0x09 else 0x08
+nmp_of Reply tag = if tag then 0x89 else 0x88
 
 -- of an NVMe-MI command, with this ROR
 abbrev pub is_nmp : ℕ → ℕ → Bool

@@ -1,10 +1,12 @@
-ghost use Rattle.std.specs.Prelude.{refl};
+ghost use Rattle.std.specs.Prelude.{◌≡◌, ◌==◌, not, Ok, refl};
+ghost use Rattle.wire.specs.Nmp.{ror_bit, is_nmp};
+ghost use Rattle.wire.specs.Refusals.{in_numbers, refuse_if, wrong_first_byte, wrong_message_type};
 ghost use Rattle.wire.specs.Endpoint.{endpoint};
 
 use crate::carrier::Carrier;
 use crate::fault::WireFault;
 use crate::message::{Command, Head, Request};
-use crate::nmp::{Ror, check_nmp};
+use crate::nmp::{Ror, check_nmp, nmp};
 use crate::space::write_front;
 
 // NVMe-MI messages of a Management Endpoint, without the transport's packets and integrity check.
@@ -13,6 +15,16 @@ pub struct Endpoint;
 
 // Byte 0 of every message: MCTP message type 04h (NVMe-MI), with the bit that says that an integrity check follows.
 const MESSAGE_TYPE: u8 = 0x84;
+
+// Refuses a message by its first two bytes.
+fn check_header(first: u8, parameters: u8, ror: Ror) -> Result<(), WireFault>
+    ensures { in_numbers result ≡ refuse_if (not (first == 0x84)) wrong_first_byte (refuse_if (not (is_nmp (ror_bit ror) parameters)) (wrong_message_type 1) (Ok tt)) }
+{
+    if first != MESSAGE_TYPE {
+        return Err(WireFault::WrongFirstByte);
+    }
+    check_nmp(parameters, ror, 1)
+}
 
 impl Carrier for Endpoint {
     const KIND: u8 = 1;
@@ -32,7 +44,7 @@ impl Carrier for Endpoint {
     fn read_request(bytes: &[u8]) -> Result<Request, WireFault> {
         let [
             first,
-            nmp,
+            parameters,
             buffer,
             _,
             opcode,
@@ -52,12 +64,9 @@ impl Carrier for Endpoint {
         else {
             return Err(WireFault::CutShort { found: bytes.len() });
         };
-        if *first != MESSAGE_TYPE {
-            return Err(WireFault::WrongFirstByte);
-        }
-        check_nmp(*nmp, Ror::Request, 1)?;
+        check_header(*first, *parameters, Ror::Request)?;
         Ok(Request {
-            tag: *nmp % 2 == 1,
+            tag: *parameters % 2 == 1,
             command: Command {
                 opcode: *opcode,
                 nmd0: u32::from_le_bytes([*a0, *a1, *a2, *a3]),
@@ -69,12 +78,11 @@ impl Carrier for Endpoint {
     }
 
     fn write_request(tag: bool, command: Command, space: &mut [u8]) -> Result<usize, WireFault> {
-        let nmp = if tag { 0x09 } else { 0x08 };
         let [a0, a1, a2, a3] = command.nmd0.to_le_bytes();
         let [b0, b1, b2, b3] = command.nmd1.to_le_bytes();
         let message = [
             MESSAGE_TYPE,
-            nmp,
+            nmp(Ror::Request, tag),
             0,
             0,
             command.opcode,
@@ -94,19 +102,24 @@ impl Carrier for Endpoint {
     }
 
     fn write_head(tag: bool, head: Head, space: &mut [u8]) -> Result<usize, WireFault> {
-        let nmp = if tag { 0x89 } else { 0x88 };
         let [n0, n1, n2, _] = head.nmresp.to_le_bytes();
-        write_front(&[MESSAGE_TYPE, nmp, 0, 0, head.status, n0, n1, n2], space)
+        write_front(&[
+            MESSAGE_TYPE,
+            nmp(Ror::Reply, tag),
+            0,
+            0,
+            head.status,
+            n0,
+            n1,
+            n2,
+        ], space)
     }
 
     fn read_head(bytes: &[u8]) -> Result<Head, WireFault> {
-        let [first, nmp, _, _, status, n0, n1, n2, ..] = bytes else {
+        let [first, parameters, _, _, status, n0, n1, n2, ..] = bytes else {
             return Err(WireFault::CutShort { found: bytes.len() });
         };
-        if *first != MESSAGE_TYPE {
-            return Err(WireFault::WrongFirstByte);
-        }
-        check_nmp(*nmp, Ror::Reply, 1)?;
+        check_header(*first, *parameters, Ror::Reply)?;
         Ok(Head {
             status: *status,
             nmresp: u32::from_le_bytes([*n0, *n1, *n2, 0]),

@@ -1,6 +1,6 @@
 // The NVMe-MI Message Parameters byte (NMP) of a message.
 ghost use Rattle.std.specs.Prelude.{◌≡◌, not, Ok};
-ghost use Rattle.wire.specs.Nmp.{ror_bit, is_nmp};
+ghost use Rattle.wire.specs.Nmp.{ror_bit, is_nmp, nmp_of};
 ghost use Rattle.wire.specs.Refusals.{in_numbers, refuse_if, wrong_message_type};
 
 use crate::fault::WireFault;
@@ -10,6 +10,13 @@ use crate::fault::WireFault;
 pub(crate) enum Ror {
     Request = 0,
     Reply = 1,
+}
+
+// The NMP of an NVMe-MI command with this ROR and, as the Command Slot Identifier, this tag.
+pub(crate) fn nmp(ror: Ror, tag: bool) -> u8
+    ensures { result ≡ nmp_of ror tag }
+{
+    (ror as u8) << 7 | 1 << 3 | u8::from(tag)
 }
 
 // Refuses an NMP, the byte at this place, unless it is that of an NVMe-MI command with this ROR.

@@ -4,7 +4,7 @@ ghost use Rattle.wire.specs.Tunnel.{tunnel, direction};
 use crate::carrier::Carrier;
 use crate::fault::WireFault;
 use crate::message::{Command, Head, Request};
-use crate::nmp::{Ror, check_nmp};
+use crate::nmp::{Ror, check_nmp, nmp};
 use crate::space::write_front;
 
 // A controller's in-band tunnel: a request is a 64-byte submission entry of NVMe-MI Send or NVMe-MI Receive.
@@ -72,7 +72,7 @@ impl Carrier for Tunnel {
         let [b0, b1, b2, b3] = command.nmd1.to_le_bytes();
         let mut entry = [0u8; 64];
         entry[0] = direction_of(command.opcode);
-        entry[41] = 0x08;
+        entry[41] = nmp(Ror::Request, false);
         entry[44] = command.opcode;
         entry[48] = a0;
         entry[49] = a1;
