@@ -55,7 +55,7 @@ impl ControllerHealthData {
         })
     }
 
-    // The bytes of the entry, by the name that the numbers of std have for it.
+    // The bytes of the entry. No `From`: `entry.to_bytes()` reads better than `<[u8; 16]>::from(entry)`.
     #[tactic(auto, using(health::proofs::Masks::flags_are_named, health::proofs::Masks::status_is_whole))]
     pub fn to_bytes(self) -> [u8; 16]
         ensures is_these_bytes { result ≡ entry_bytes (entry_of self) }

@@ -59,7 +59,7 @@ impl SubsystemHealthData {
         })
     }
 
-    // The bytes of the data, by the name that the numbers of std have for it.
+    // The bytes of the data. No `From`: `data.to_bytes()` reads better than `<[u8; 8]>::from(data)`.
     #[tactic(auto, using(health::proofs::Masks::flags_are_named))]
     pub fn to_bytes(self) -> [u8; 8]
         ensures is_these_bytes { result ≡ subsystem_bytes (subsystem_of self) }

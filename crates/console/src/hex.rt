@@ -6,7 +6,7 @@ use std::alloc::{AllocError, AllocFailed, Global};
 use std::fmt;
 use thiserror::Error;
 
-// Bytes as pairs of hex digits. The field has a name, as in the other texts: `HexBytes { bytes }` is no longer than `HexBytes(bytes)`.
+// Bytes as pairs of hex digits.
 #[derive(Clone, Copy)]
 pub struct HexBytes<'a> {
     pub bytes: &'a [u8],
@@ -47,6 +47,7 @@ impl<T: Drop> From<AllocFailed<T>> for HexFault {
     }
 }
 
+// The value of a hex digit. `char::to_digit` is no plainer: it takes a `char` and gives a `u32`.
 fn digit(code: u8) -> Option<u8>
     ensures is_the_digit { result ≡ hex_digit code }
     ensures is_below_16 { IfSome result (λ value. value < 16) }
@@ -59,7 +60,7 @@ fn digit(code: u8) -> Option<u8>
     }
 }
 
-// The bytes that pairs of hex digits name.
+// The bytes that pairs of hex digits name. The kit's crate `hex` is no plainer here: its fault would be turned into ours by hand.
 #[tactic(auto, using(crate::proofs::Pairs::none_read, crate::proofs::Pairs::odd))]
 pub fn read_hex(heap: Global, text: &[u8]) -> Result<Vec<u8>, HexFault>
     ensures { Reads result text.now }

@@ -2,7 +2,7 @@
 ghost use Rattle.std.specs.Prelude.{◌≡◌};
 ghost use Rattle.console.specs.Numbers.{decimal_up_to};
 
-// The number that one decimal digit or more name, where it is at most this.
+// The number that one decimal digit or more name, where it is at most this. No `parse`, which takes a sign.
 pub fn read_decimal(text: &[u8], most: u16) -> Option<u16>
     ensures { result ≡ decimal_up_to most text.now }
 {

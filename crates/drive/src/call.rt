@@ -54,6 +54,7 @@ pub struct RequestCall {
     pub bytes: Vec<u8>,
 }
 
+// `manager` has the same two words: one public type in `console`, with its contract and edits, would be no shorter.
 #[derive(Clone, Copy)]
 pub enum CarrierName {
     Endpoint,
@@ -82,11 +83,28 @@ fn read_call(name: &str, fields: &mut Fields<'_>) -> Result<Call, LineFault> {
         "reply" => Ok(Call::Reply(usize::from(fields.number(REPLY as u16)?))),
         "gained" => read_gained(fields),
         "code" => Ok(Call::Code(fields.u16()?)),
+        "responder" => Ok(Call::FittingOut(FittingOutCall::Responder { kind: fields.u8()? })),
+        "controller" => Ok(Call::FittingOut(FittingOutCall::Controller {
+            id: fields.u16()?,
+            function: fields.u8()?,
+            first: fields.report()?,
+        })),
+        "port" => Ok(Call::FittingOut(FittingOutCall::Port { id: fields.u8()? })),
         "open" => Ok(Call::Open),
-        "responder" | "controller" | "port" => Ok(Call::FittingOut(read_fitting_out(
-            name, fields,
-        )?)),
-        _ => Ok(Call::Service(read_service(name, fields)?)),
+        "report" => Ok(Call::Service(ServiceCall::Report {
+            id: fields.u16()?,
+            report: fields.report()?,
+        })),
+        "link" => Ok(Call::Service(ServiceCall::Link {
+            id: fields.u8()?,
+            up: fields.link()?,
+        })),
+        "status" => Ok(Call::Service(read_status(fields)?)),
+        "request" => Ok(Call::Service(read_request(fields)?)),
+        "reset" => Ok(Call::Service(ServiceCall::Reset {
+            responder: fields.u8()?,
+        })),
+        _ => Err(LineFault::UnknownCall),
     }
 }
 
@@ -102,38 +120,6 @@ fn read_gained(fields: &mut Fields<'_>) -> Result<Call, LineFault> {
         old: fields.report()?,
         new: fields.report()?,
     })
-}
-
-fn read_fitting_out(name: &str, fields: &mut Fields<'_>) -> Result<FittingOutCall, LineFault> {
-    match name {
-        "responder" => Ok(FittingOutCall::Responder { kind: fields.u8()? }),
-        "controller" => Ok(FittingOutCall::Controller {
-            id: fields.u16()?,
-            function: fields.u8()?,
-            first: fields.report()?,
-        }),
-        "port" => Ok(FittingOutCall::Port { id: fields.u8()? }),
-        _ => Err(LineFault::UnknownCall),
-    }
-}
-
-fn read_service(name: &str, fields: &mut Fields<'_>) -> Result<ServiceCall, LineFault> {
-    match name {
-        "report" => Ok(ServiceCall::Report {
-            id: fields.u16()?,
-            report: fields.report()?,
-        }),
-        "link" => Ok(ServiceCall::Link {
-            id: fields.u8()?,
-            up: fields.link()?,
-        }),
-        "status" => read_status(fields),
-        "request" => read_request(fields),
-        "reset" => Ok(ServiceCall::Reset {
-            responder: fields.u8()?,
-        }),
-        _ => Err(LineFault::UnknownCall),
-    }
 }
 
 fn read_status(fields: &mut Fields<'_>) -> Result<ServiceCall, LineFault> {

@@ -27,7 +27,7 @@ fn answer_line(rt: &HostRuntime, drive: &mut Drive, line: &str) -> io::Result<()
     }
 }
 
-// There is one argument at most: `-`, for standard input.
+// The only argument is `-`, for standard input.
 fn check_arguments(rt: &HostRuntime) -> anyhow::Result<()> {
     for argument in env::args(rt)?.skip(1) {
         ensure!(

@@ -43,17 +43,13 @@ pub struct Memory {
 
 impl Memory {
     pub fn new() -> Memory {
-        let port = Port {
-            id: 0,
-            link_up: false,
-        };
         let mut memory = Memory {
             rows: Lent {
                 memory: [Row::clear(); ROWS],
                 lent: 0,
             },
             ports: Lent {
-                memory: [port; PORTS],
+                memory: [Port::default(); PORTS],
                 lent: 0,
             },
             reply: Lent {

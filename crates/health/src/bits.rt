@@ -18,7 +18,7 @@ pub trait NamedBit<const MASK: u16>: Copy {
 }
 
 impl<const MASK: u16> Bits<MASK> {
-    // No bit set. No derived `Default`, which a must-fail edit could not turn, and which says less at a call.
+    // No bit set. No `Default`: none is derived over a ghost field, and this says more at a call.
     pub fn none() -> Self
         ensures { result.bits ≡ 0 }
     {

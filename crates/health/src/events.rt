@@ -10,8 +10,8 @@ const EVENTS: u16 = 0x01c0;
 pub type StatusEvents = Bits<EVENTS>;
 
 impl StatusEvents {
-    #[tactic(auto, using(crate::proofs::Masks::events_mask))]
     // The events that a Controller Status word reports.
+    #[tactic(auto, using(crate::proofs::Masks::events_mask))]
     pub fn from_status(status: u16) -> Self
         ensures { result.bits ≡ events_in status }
     {

@@ -25,7 +25,7 @@ pub enum ChangedFlag {
 impl NamedBit<FLAGS> for ChangedFlag {
     ghost bit_number = { flag_number };
 
-    // The bit of a flags word that holds this flag. Each enum writes its own: `as` needs the enum.
+    // The bit of a flags word that holds this flag. Each enum has its own, since `as` is only for an enum that is known.
     fn number(self) -> u16 {
         self as u16
     }

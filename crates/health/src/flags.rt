@@ -10,8 +10,8 @@ pub(crate) const FLAGS: u16 = 0x3ff7;
 pub type ChangedFlags = Bits<FLAGS>;
 
 impl ChangedFlags {
+    // The flags of a word. Bits that name no flag are ignored, which the name `from` would not say.
     #[tactic(auto, using(crate::proofs::Masks::flags_mask))]
-    // The flags of a word. Bits that name no flag are ignored: a `From` would hide that.
     pub fn from_bits(bits: u16) -> Self
         ensures { result.bits ≡ named_flags bits }
     {

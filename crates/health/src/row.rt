@@ -12,7 +12,7 @@ pub struct Row {
 }
 
 impl Row {
-    // No flag and no event. No derived `Default`: a row is cleared by this name, and a must-fail edit turns it.
+    // No flag and no event. No `Default`: `Bits` has none.
     pub fn clear() -> Self
         ensures { row_of result ≡ clear_row }
     {

@@ -11,7 +11,7 @@ pub struct Line {
     pub message: Message,
 }
 
-// `drive` has the same two words, with a fault of its own for another: one public type in `console` for both would be no shorter.
+// `drive` has the same two words: one public type in `console`, with its contract and edits, would be no shorter.
 #[derive(Clone, Copy)]
 pub enum CarrierName {
     Endpoint,

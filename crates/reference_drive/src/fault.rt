@@ -20,7 +20,7 @@ impl From<WireFault> for RunFault {
     }
 }
 
-// By hand: the cause is not kept, so that the fault is plain data.
+// By hand: an `io::Error` is not kept, and its words are others.
 impl From<io::Error> for RunFault {
     fn from(_e: io::Error) -> RunFault {
         RunFault::NotPrinted

@@ -32,10 +32,7 @@ impl PoweredDrive {
     pub fn power_on() -> Result<PoweredDrive, Fault> {
         let mut register = InlineRegister::new();
         let mut rows = [Row::clear(); 3];
-        let mut ports = [Port {
-            id: 0,
-            link_up: false,
-        }; 2];
+        let mut ports = [Port::default(); 2];
         let builder = fit_out(&mut register, &mut ports)?;
         let mut subsystem = builder
             .open(&register, &mut rows)

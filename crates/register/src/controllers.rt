@@ -9,7 +9,7 @@ use crate::register_fault::RegisterFault;
 use table::insert_into;
 
 // Adds a controller in its place among the first `count` slots.
-// Apart from `enroll`, so that an edit of `enroll` is refused at the code and not at an answer: within it two goals stay open.
+// Apart from `enroll`: with this body there two of its goals stay open, and need answers, at which an edit of `enroll` would be refused.
 #[tactic(auto, using(crate::proofs::Enrolling::enrolling))]
 pub(crate) fn enroll_in(
     slots: &mut [Controller],

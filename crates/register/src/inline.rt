@@ -4,7 +4,8 @@ ghost use Rattle.register.specs.Controllers.{controller_of, lawful};
 use crate::controller::Controller;
 
 // A register of capacity 4 that holds its own controllers: the first `count` of its slots.
-// Slots with a count beside them, and no list of fixed capacity: the slots behind the count are values too, and the edits in must-fail speak of them.
+// No `ArrayVec`: its unused places are no values, so that four must-fail edits, of a count, a record, a search and a write among unused slots, could
+// not keep their meaning.
 #[derive(Drop)]
 pub struct InlineRegister {
     pub(crate) count: usize,

@@ -14,7 +14,7 @@ impl InlineRegister {
     pub fn new() -> Self
         ensures is_empty { inline_of result ≡ record { capacity = 4; controllers = [] } }
     {
-        // what stands in a slot that is not in use; `Health` has no `Default`
+        // what stands in a slot that is not in use; no `Default` is derived over the ghost field of `Health`
         let vacant = Controller {
             id: 0,
             function: FunctionType::Pci,

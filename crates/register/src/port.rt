@@ -1,7 +1,7 @@
 use table::Numbered;
 
 // A PCIe port of the drive.
-#[derive(Clone, Copy)]
+#[derive(Clone, Copy, Default)]
 pub struct Port {
     pub id: u8,
     pub link_up: bool,

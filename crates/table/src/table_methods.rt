@@ -25,20 +25,25 @@ impl<'a, T: Numbered> Table<'a, T> {
         self.len.min(self.slots.len())
     }
 
+    // The records in use.
+    fn in_use(&self) -> &[T]
+        ensures { result.now ≡ in_use (table_of self.now) }
+    {
+        &self.slots[..self.len()]
+    }
+
     // The record at a place, where one is in use.
     pub fn get(&self, place: usize) -> Option<T>
         ensures { result ≡ slice_get (in_use (table_of self.now)) place }
     {
-        let len = self.len();
-        record_at(&self.slots[0..len], place)
+        record_at(self.in_use(), place)
     }
 
     // The first place whose record has a number at or above this one, else the length.
     pub fn first_place(&self, number: T::Number) -> usize
         ensures { result ≡ first_place T.Number.cmp T.key number (in_use (table_of self.now)) }
     {
-        let len = self.len();
-        first_place(&self.slots[0..len], number)
+        first_place(self.in_use(), number)
     }
 
     // Puts a record in its place, and moves those behind it up by one. Answers the place.

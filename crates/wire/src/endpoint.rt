@@ -103,16 +103,19 @@ impl Carrier for Endpoint {
 
     fn write_head(tag: bool, head: Head, space: &mut [u8]) -> Result<usize, WireFault> {
         let [n0, n1, n2, _] = head.nmresp.to_le_bytes();
-        write_front(&[
-            MESSAGE_TYPE,
-            nmp(Ror::Reply, tag),
-            0,
-            0,
-            head.status,
-            n0,
-            n1,
-            n2,
-        ], space)
+        write_front(
+            &[
+                MESSAGE_TYPE,
+                nmp(Ror::Reply, tag),
+                0,
+                0,
+                head.status,
+                n0,
+                n1,
+                n2,
+            ],
+            space,
+        )
     }
 
     fn read_head(bytes: &[u8]) -> Result<Head, WireFault> {

@@ -68,6 +68,7 @@ impl Carrier for Tunnel {
 
     // A submission entry has no tag.
     fn write_request(_tag: bool, command: Command, space: &mut [u8]) -> Result<usize, WireFault> {
+        // Byte by byte: with `copy_from_slice` into parts of the entry the proof of its bytes did not close, by search, by grind nor by rewriting.
         let [a0, a1, a2, a3] = command.nmd0.to_le_bytes();
         let [b0, b1, b2, b3] = command.nmd1.to_le_bytes();
         let mut entry = [0u8; 64];
