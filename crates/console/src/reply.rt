@@ -4,7 +4,7 @@ use commands::{ControllerHealthData, HealthCommand, ResponseStatus, SubsystemHea
 use std::fmt;
 use wire::{Reply, WireFault};
 
-// A reply in print, read in the light of the request that it answers, where that is known.
+// A reply in print, read as the answer to a request, where that is known.
 #[derive(Clone, Copy)]
 pub struct ReplyText<'a> {
     pub reply: Reply<'a>,

@@ -23,7 +23,7 @@ impl Capture {
     }
 }
 
-// A reply is read in the light of the request before it.
+// A reply is read as the answer to the request before it.
 fn show_message<C: Carrier>(
     rt: &HostRuntime,
     asked: &mut Option<HealthCommand>,
