@@ -2,7 +2,7 @@
 use Rattle.std.proofs.Common.{◌≡◌, ℕ, ◌+◌, ◌<◌, ◌≤◌, Bool, true, false, not, eqb, ltb, List, get_or, Some, None, Ok, Err, Option, Result, sym, refl, ap, ◌∙◌, arith, length}
 use Rattle.std.specs.List.{slice_get}
 use Rattle.std.proofs.lemmas.Option.{slice_get_past}
-use Rattle.std.proofs.lemmas.Bool.{eq-eqb, ne_eqb}
+use Rattle.std.proofs.lemmas.Bool.{eq-eqb, ne_eqb, not-false}
 use Rattle.wire.specs.Refusals.{Refusal, refuse_if, space_too_short}
 use Rattle.wire.specs.declared.message.Lengths.{Lengths}
 use Rattle.model.specs.ServiceRefusals.{no_such_responder, responder_of_another_kind, memory_too_short}
@@ -12,7 +12,7 @@ use Rattle.subsystem.specs.Admission.{lent_enough, admitted_at, admission}
 use Rattle.subsystem.specs.declared.lent.Lent.{Lent}
 use Rattle.subsystem.specs.declared.responder.Responder.{Responder}
 use Rattle.subsystem.specs.declared.service.Subsystem.{Subsystem}
-use Rattle.subsystem.proofs.Checks.{test_refused}
+use Rattle.subsystem.proofs.Checks.{passed, test_refused}
 use Rattle.subsystem.proofs.OneResponder.{nth_in_use}
 use Rattle.subsystem.proofs.Reporting.{in_use}
 
@@ -56,15 +56,6 @@ pub record Admitted (hs : List ResponderValues) (port_count r : ℕ) (lengths : 
   pub rows : ltb lent.rows lent.rows_needed ≡ false
   pub ports : ltb lent.ports port_count ≡ false
   pub reply : ltb lent.reply (lengths.head + 4080) ≡ false
-
--- a test that was passed, and what follows it
-passed : {A : Type 0} (b : Bool) (q : Refusal) (rest : Result A Refusal) (a : A) → Ok a ≡ refuse_if b q rest → (b ≡ false) × (Ok a ≡ rest)
-passed true q rest a e = let z : ◌≡◌ {A = ℕ} 0 1 = cc in absurd (omega arith)
-passed false q rest a e = (refl, e)
-
-not-false : (b : Bool) → not b ≡ false → b ≡ true
-not-false true e = refl
-not-false false e = sym e
 
 admitted_by : (hs : List ResponderValues) (port_count r : ℕ) (lengths : Lengths) (lent : Lent) (o : Option ResponderValues) → slice_get hs r ≡ o
     → Ok tt ≡ admitted_at o port_count r lengths lent → Admitted hs port_count r lengths lent

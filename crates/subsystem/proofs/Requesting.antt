@@ -1,6 +1,7 @@
 -- The cases of a request.
 use Rattle.std.proofs.Common.{◌≡◌, ℕ, zero, suc, ◌*◌, Bool, true, false, not, eqb, ltb, List, [], ◌∷◌, ◌++◌, map, length, take, drop, Some, None, Ok, Err, Option, Result, sym, refl, ap, ◌∙◌, arith}
 use Rattle.std.specs.List.{slice_get}
+use Rattle.std.proofs.lemmas.Option.{none-some}
 use Rattle.health.specs.Rows.{RowValues, row_of}
 use Rattle.health.specs.declared.row.Row.{Row}
 use Rattle.wire.specs.Refusals.{Refusal, refuse_if, space_too_short}
@@ -61,7 +62,7 @@ test_first false q a o = refl
 
 nth_none : (c : ℕ) (hs : List ResponderValues) (ws : List RowValues) (r : ℕ) → slice_get hs r ≡ None → slice_get (responders_with_rows c hs ws) r ≡ None
 nth_none c [] ws r e = refl
-nth_none c (h ∷ hs) ws zero e = let z : ◌≡◌ {A = ℕ} 0 1 = cc in absurd (omega arith)
+nth_none c (h ∷ hs) ws zero e = absurd (none-some h (sym e))
 nth_none c (h ∷ hs) ws (suc r) e = nth_none c hs (drop c ws) r e
 
 module _ (x : Subsystem) (m : RegisterValues) (rows : List Row) (ports : List Port) (r : ℕ) (k : CarrierMeaning) (bytes : List ℕ) (lent : Lent)

@@ -67,10 +67,7 @@ fn head_alone(head: Head, composite: ChangedFlags) -> Answered
 fn largest_id<R: Register>(register: &R) -> u16
     ensures { result ≡ largest_id (R.Register.meaning register.now).controllers }
 {
-    match register.get(register.len().saturating_sub(1)) {
-        Some(controller) => controller.id,
-        None => 0,
-    }
+    register.get(register.len().saturating_sub(1)).map_or(0, |controller| controller.id)
 }
 
 // The composite flags, unless they are cleared.
@@ -82,14 +79,6 @@ fn unless_cleared(composite: ChangedFlags, clear_status: bool) -> ChangedFlags
     } else {
         composite
     }
-}
-
-// Writes bytes to the front of the payload.
-fn write_front(bytes: &[u8], payload: &mut [u8])
-    requires { length bytes.now ≤ length payload.old }
-    ensures { payload.new ≡ bytes.now ++ drop (length bytes.now) payload.old }
-{
-    payload[0..bytes.len()].copy_from_slice(bytes);
 }
 
 impl<R: Register> Polled<'_, R> {
@@ -132,7 +121,7 @@ impl<R: Register> Polled<'_, R> {
             self.ports,
             self.composite,
         ).to_bytes();
-        write_front(&bytes, payload);
+        payload[..8].copy_from_slice(&bytes);
         Answered {
             head: success(0),
             length: 8,

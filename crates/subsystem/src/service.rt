@@ -1,4 +1,4 @@
-ghost use Rattle.std.specs.Prelude.{◌≡◌, ◌≤◌, length};
+ghost use Rattle.std.specs.Prelude.{◌≡◌, ◌*◌, ◌≤◌, length};
 ghost use Rattle.arrayvec.specs.ArrayVec.{array_vec_len};
 
 use crate::memory::Layout;
@@ -21,6 +21,7 @@ impl Subsystem {
     pub(crate) fn layout<R: Register>(&self, register: &R) -> Layout
         ensures for_the_responders { result.responders ≡ array_vec_len self.now.responders }
         ensures for_the_controllers { result.controllers ≡ length (R.Register.meaning register.now).controllers }
+        ensures for_both { result.responders * result.controllers ≡ array_vec_len self.now.responders * length (R.Register.meaning register.now).controllers }
     {
         Layout::of(register, self.responders.len())
     }

@@ -22,10 +22,10 @@ write_head_before-requires g c =
     let k = g.C.Carrier.meaning.head_length in
     let before = c.args.reply.now in
     let middle = c.answer_behind_head-answered.new.reply in
-    let head = c.lengths-head.result.head in
+    let head = c.HEAD.result in
     let is = c.answer_behind_head-answered.ensures 0 in
     let kept = c.answer_behind_head-answered.auto.reply in
-    let same : head ≡ k = ap (λ v. v.head) c.lengths-head.ensures in
+    let same : head ≡ k = c.HEAD.ensures ∙ g.met.C.Carrier.head_is_meant in
     let space = c.requires.space_for_the_reply in
     let a = length-drop head before in
     let b = length-drop head middle in
@@ -65,9 +65,9 @@ returns g c = λ rest more x there.
     same_served d s.drive refl refl (ports_shown self.port_count ports more c.requires.ports_in_use) (responder_with kind old.composite.bits lent) c.args.asked
     ∙ ap (λ y. served s.drive y c.args.asked) is_x in
     let k = g.C.Carrier.meaning in
-    let head : c.lengths-head.result.head ≡ k.head_length = ap (λ l. l.head) c.lengths-head.ensures in
+    let head : c.HEAD.result ≡ k.head_length = c.HEAD.ensures ∙ g.met.C.Carrier.head_is_meant in
     let answered_so = subst (λ (l : List Responder). ReplyIs (served d (responder_with kind (get_or l r c.index-deref-responder.result).composite.bits lent) c.args.asked) kind answered (map row_of part)
-    (drop c.lengths-head.result.head c.args.reply.now) (drop c.lengths-head.result.head c.answer_behind_head-answered.new.reply)) c.deref.ensures.0 (c.answer_behind_head-answered.ensures kind) in
+    (drop c.HEAD.result c.args.reply.now) (drop c.HEAD.result c.answer_behind_head-answered.new.reply)) c.deref.ensures.0 (c.answer_behind_head-answered.ensures kind) in
     let is = subst (λ (h : ℕ). ReplyIs v kind answered (map row_of part) (drop h c.args.reply.now) (drop h c.answer_behind_head-answered.new.reply)) head answered_so in
     let given = c.deref_mut.ensures.value in
     let changed = with_flags (get_or items r c.index-deref_mut-responder.result) in
