@@ -20,9 +20,6 @@ module _ (x : Subsystem) (r : ℕ) (lengths : Lengths) (lent : Lent) where
   abbrev tested : Result (Unit {0}) Refusal
   tested = admission (responders_of x) x.port_count r lengths lent
 
-  pub absent : length x.responders.items ≤ r → Err (no_such_responder r) ≡ tested
-  absent l = sym (ap (λ o. admitted_at o x.port_count r lengths lent) (slice_get_past (responders_of x) r (omega (arith, in_use x))))
-
   module _ (d : Responder) (there : r < length x.responders.items) where
     abbrev kind : ℕ
     kind = (get_or x.responders.items r d).kind

@@ -1,11 +1,11 @@
 // What a request that was read is answered, at one Responder.
-ghost use Rattle.std.specs.Prelude.{◌≡◌, ℕ, ◌*◌, ◌^◌, ◌≤◌, cond, List, ◌++◌, map, length, drop, Ok};
+ghost use Rattle.std.specs.Prelude.{◌≡◌, ℕ, ◌*◌, ◌^◌, ◌≤◌, cond, List, map, Ok};
 ghost use Rattle.health.specs.Rows.{RowValues, row_of};
 ghost use Rattle.polls.specs.Shown.{status_of};
 ghost use Rattle.commands.specs.Commands.{asked_of, subsystem_poll};
 ghost use Rattle.commands.specs.Status.{head_of};
-ghost use Rattle.model.specs.Requests.{largest_id, health_poll, by_command, served};
-ghost use Rattle.subsystem.specs.Replies.{ReplyIs, polled_drive, drive_shown, responder_with};
+ghost use Rattle.model.specs.Requests.{largest_id, health_poll, by_command};
+ghost use Rattle.subsystem.specs.Replies.{ReplyIs, Serves, polled_drive, drive_shown, responder_with};
 
 use commands::{ControllerHealthPoll, ErrorReply, HealthCommand};
 use health::{ChangedFlags, Row};
@@ -159,7 +159,7 @@ impl<R: Register> Polled<'_, R> {
         request: Request,
         payload: &mut Payload,
     ) -> Answered
-        ensures { (kind : ℕ) → ReplyIs (served (drive_shown (R.Register.meaning self.now.register.now) (status_of self.now.status) self.now.ports.now) (responder_with kind self.now.composite.bits (map row_of own.old)) request) kind result (map row_of own.new) payload.old payload.new }
+        ensures { Serves (R.Register.meaning self.now.register.now) (status_of self.now.status) self.now.ports.now self.now.composite.bits (map row_of own.old) request result (map row_of own.new) payload.old payload.new }
     {
         if request.surplus != 0 {
             return head_alone(ErrorReply::InvalidCommandSize.into(), self.composite);

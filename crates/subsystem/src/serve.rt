@@ -68,6 +68,8 @@ impl Subsystem {
     }
 
     // Serves a request at a Responder: writes the reply to the front of the reply memory, and answers its length.
+    // The register, the rows and the ports are parameters and no struct: each call borrows what it needs, shared or to write, and a struct
+    // would lend more than a call needs.
     pub fn serve<C: Carrier, R: Register>(
         &mut self,
         responder: u8,

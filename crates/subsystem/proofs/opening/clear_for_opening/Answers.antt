@@ -13,5 +13,5 @@ returns-clause-clears_the_rows_in_use g c =
     let n = c.needed-needed.result in
     let tested = c.in_ok-check_length.ensures in
     let room : n ≤ length rows = ltb-false (length rows) n (passed _ _ _ tt tested).0 in
-    let needed = (c.needed-needed.ensures ∙ (λ i. (c.of.ensures.for_the_responders ∙ c.len-3.ensures.value) i * c.of.ensures.for_the_controllers i)) in
+    let needed = c.needed-needed.ensures ∙ c.of.ensures.for_both ∙ ap (λ k. k * length m.controllers) c.len-3.ensures.value in
     rows_cleared n rows c.clear_rows.new.rows room c.clear_rows.ensures ∙ ap (λ v. replicate v clear_row ++ drop v (map row_of rows)) needed

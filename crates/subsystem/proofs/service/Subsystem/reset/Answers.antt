@@ -1,6 +1,4 @@
 use borrow.Rule.Slice.PartMut.{put_mid}
-use Rattle.std.specs.List.{refill}
-use Rattle.std.proofs.lemmas.List.{length-set}
 use Rattle.std.proofs.Common.{◌≡◌, ℕ, ◌-◌, ◌*◌, ◌<◌, ◌++◌, map, length, get_or, set, subst, replicate, Ok, Err, sym, ap, ◌∙◌, arith}
 use Rattle.std.proofs.lemmas.Bool.{ltb-false}
 use Rattle.health.specs.Rows.{row_of, clear_row}
@@ -12,9 +10,8 @@ use Rattle.subsystem.specs.Responders.{responder_of}
 use Rattle.subsystem.specs.declared.responder.Responder.{Responder}
 use Rattle.subsystem.specs.States.{with_its_rows, state_from, drive_of, state_of}
 use Rattle.subsystem.proofs.Checks.{passed, by_needed, climbed}
-use Rattle.subsystem.proofs.OneResponder.{same_change, responder_there, responder_exists, responder_absent, responder_replaced, length_lent, own_rows_length}
+use Rattle.subsystem.proofs.OneResponder.{one_given_back, same_change, responder_there, responder_exists, responder_absent, responder_replaced, length_lent, own_rows_length}
 use Rattle.subsystem.proofs.Resetting.{reset_taken, reset_absent, reset_tested, is_reset}
-use Rattle.subsystem.proofs.Reporting.{given_back}
 use Rattle.subsystem.proofs.RowGroups.{own_rows_lent}
 use Rattle.subsystem.proofs.service.Subsystem.reset.Goals as goal
 
@@ -56,9 +53,7 @@ returns-clause-is_answered_and_done_as_the_model_says g c =
     let kind = (get_or items r old).kind in
     let cleared_flags : Responder → Responder = λ y. record { kind = y.kind; composite = c.none.result } in
     let new = cleared_flags (get_or items r old) in
-    let lent : c.deref_mut.result.now ≡ items = c.deref_mut.ensures.value in
-    let back : refill (length items) items (set c.deref_mut.result.now r (cleared_flags (get_or c.deref_mut.result.now r old))) ≡ set items r new =
-    (λ i. refill (length items) items (set (lent i) r (cleared_flags (get_or (lent i) r old)))) ∙ given_back items (set items r new) (length-set items r new) in
+    let back = one_given_back cleared_flags items c.deref_mut.result.now r old c.deref_mut.ensures.value in
     let in_use = subst (λ (v : ℕ). r < v) c.len.ensures.value c.if-r-len.false in
     let en : n ≡ length m.controllers = omega (arith, c.rows_of.ensures.begins, c.rows_of.ensures.ends, c.layout-layout.ensures.for_the_controllers) in
     let ek : k ≡ r * length m.controllers = c.rows_of.ensures.begins ∙ ap (λ v. r * v) c.layout-layout.ensures.for_the_controllers in
