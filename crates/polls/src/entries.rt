@@ -8,7 +8,7 @@ use crate::qualify::{entry, may_return_more, qualifies, returned_row};
 use commands::ControllerHealthPoll;
 use health::Row;
 use register::Register;
-use wire::WireFault;
+use wire::{WireFault, check_space};
 
 // Writes the entries of the controllers that a poll returns, one behind another, to the front of lent space, and answers how many.
 // `rows` are those of the Responder that is polled; with Clear Changed Flags, the rows of the controllers returned are cleared.
@@ -25,9 +25,7 @@ pub fn write_entries<R: Register>(
     ensures a_refusal_changes_nothing { is_ok result ≡ false → rows.new ≡ rows.old }
 {
     let needed = 16 * (usize::from(poll.maxrent) + 1);
-    if space.len() < needed {
-        return Err(WireFault::SpaceTooShort { needed });
-    }
+    check_space(space.len(), needed)?;
     Ok(fill_entries(register, rows, poll, space))
 }
 

@@ -1,7 +1,7 @@
 -- The tests of a request before its bytes are read.
 use Rattle.std.proofs.Common.{◌≡◌, ℕ, ◌+◌, ◌<◌, ◌≤◌, Bool, true, false, not, eqb, ltb, List, get_or, Some, None, Ok, Err, Option, Result, sym, refl, ap, ◌∙◌, arith, length}
 use Rattle.std.specs.List.{slice_get}
-use Rattle.std.proofs.lemmas.Option.{slice_get_past}
+use Rattle.std.proofs.lemmas.Option.{slice_get_within}
 use Rattle.std.proofs.lemmas.Bool.{eq-eqb, ne_eqb}
 use Rattle.wire.specs.Refusals.{Refusal, refuse_if, space_too_short}
 use Rattle.wire.specs.declared.message.Lengths.{Lengths}
@@ -16,66 +16,47 @@ use Rattle.subsystem.proofs.Checks.{test_refused}
 use Rattle.subsystem.proofs.OneResponder.{nth_in_use}
 use Rattle.subsystem.proofs.Reporting.{in_use}
 
-module _ (x : Subsystem) (r : ℕ) (lengths : Lengths) (lent : Lent) where
+-- from what the code reads: `seen` are the Responders, n is their number, and r is the Responder's
+module _ (x : Subsystem) (r responder : ℕ) (same : r ≡ responder) (lengths : Lengths) (lent : Lent) (n : ℕ) (count : n ≡ length x.responders.items) (there : r < n)
+    (seen : List Responder) (all : seen ≡ x.responders.items) (d : Responder) where
   abbrev tested : Result (Unit {0}) Refusal
-  tested = admission (responders_of x) x.port_count r lengths lent
+  tested = admission (responders_of x) x.port_count responder lengths lent
 
-  pub absent : length x.responders.items ≤ r → Err (no_such_responder r) ≡ tested
-  absent l = sym (ap (λ o. admitted_at o x.port_count r lengths lent) (slice_get_past (responders_of x) r (omega (arith, in_use x))))
+  abbrev kind : ℕ
+  kind = (get_or seen r d).kind
 
-  module _ (d : Responder) (there : r < length x.responders.items) where
-    abbrev kind : ℕ
-    kind = (get_or x.responders.items r d).kind
+  by_responder : admitted_at (Some (responder_of (get_or seen r d))) x.port_count responder lengths lent ≡ tested
+  by_responder =
+      let o : slice_get (responders_of x) responder ≡ Some (responder_of (get_or seen r d)) =
+      ap (slice_get (responders_of x)) (sym same) ∙ nth_in_use x r d (omega (arith, count)) ∙ ap (λ l. Some (responder_of (get_or l r d))) (sym all) in
+      sym (ap (λ o. admitted_at o x.port_count responder lengths lent) o)
 
-    by_responder : admitted_at (Some (responder_of (get_or x.responders.items r d))) x.port_count r lengths lent ≡ tested
-    by_responder = sym (ap (λ o. admitted_at o x.port_count r lengths lent) (nth_in_use x r d there))
+  pub another_kind : (kind ≡ lengths.kind → ⊥) → Err (responder_of_another_kind responder) ≡ tested
+  another_kind e = sym (simp (ne_eqb kind lengths.kind e)) ∙ by_responder
 
-    pub another_kind : (kind ≡ lengths.kind → ⊥) → Err (responder_of_another_kind r) ≡ tested
-    another_kind e = sym (simp (ne_eqb kind lengths.kind e)) ∙ by_responder
+  module _ (of_it : kind ≡ lengths.kind) where
+    by_memory : lent_enough x.port_count lengths.head lent ≡ tested
+    by_memory = sym (simp (eq-eqb kind lengths.kind of_it)) ∙ by_responder
 
-    module _ (same : kind ≡ lengths.kind) where
-      by_memory : lent_enough x.port_count lengths.head lent ≡ tested
-      by_memory = sym (simp (eq-eqb kind lengths.kind same)) ∙ by_responder
+    pub rows_short : (f : Refusal) → ◌≡◌ {A = Result (Unit {0}) Refusal} (Err f) (refuse_if (ltb lent.rows lent.rows_needed) (memory_too_short lent.rows_needed) (Ok tt)) → Err f ≡ tested
+    rows_short f e = sym (test_refused (ltb lent.rows lent.rows_needed) (memory_too_short lent.rows_needed) f _ e) ∙ by_memory
 
-      pub rows_short : (f : Refusal) → ◌≡◌ {A = Result (Unit {0}) Refusal} (Err f) (refuse_if (ltb lent.rows lent.rows_needed) (memory_too_short lent.rows_needed) (Ok tt)) → Err f ≡ tested
-      rows_short f e = sym (test_refused (ltb lent.rows lent.rows_needed) (memory_too_short lent.rows_needed) f _ e) ∙ by_memory
+    module _ (rows : ltb lent.rows lent.rows_needed ≡ false) where
+      pub ports_short : (f : Refusal) → ◌≡◌ {A = Result (Unit {0}) Refusal} (Err f) (refuse_if (ltb lent.ports x.port_count) (memory_too_short x.port_count) (Ok tt)) → Err f ≡ tested
+      ports_short f e = sym (simp rows (test_refused (ltb lent.ports x.port_count) (memory_too_short x.port_count) f _ e)) ∙ by_memory
 
-      module _ (rows : ltb lent.rows lent.rows_needed ≡ false) where
-        pub ports_short : (f : Refusal) → ◌≡◌ {A = Result (Unit {0}) Refusal} (Err f) (refuse_if (ltb lent.ports x.port_count) (memory_too_short x.port_count) (Ok tt)) → Err f ≡ tested
-        ports_short f e = sym (simp rows (test_refused (ltb lent.ports x.port_count) (memory_too_short x.port_count) f _ e)) ∙ by_memory
+      pub last_test : ltb lent.ports x.port_count ≡ false
+          → refuse_if (ltb lent.reply (lengths.head + 4080)) (space_too_short (lengths.head + 4080)) (Ok tt) ≡ tested
+      last_test ports = sym (simp (rows, ports)) ∙ by_memory
 
-        pub last_test : ltb lent.ports x.port_count ≡ false
-            → refuse_if (ltb lent.reply (lengths.head + 4080)) (space_too_short (lengths.head + 4080)) (Ok tt) ≡ tested
-        last_test ports = sym (simp (rows, ports)) ∙ by_memory
+-- a Responder that is admitted is there
+pub admitted_there : (o : Option ResponderValues) (port_count r : ℕ) (lengths : Lengths) (lent : Lent) → Ok tt ≡ admitted_at o port_count r lengths lent
+    → (h : ResponderValues) × (o ≡ Some h)
+admitted_there None port_count r lengths lent e = let z : ◌≡◌ {A = ℕ} 0 1 = cc in absurd (omega arith)
+admitted_there (Some h) port_count r lengths lent e = (h, refl)
 
--- what is known of a request that is admitted
-pub record Admitted (hs : List ResponderValues) (port_count r : ℕ) (lengths : Lengths) (lent : Lent) : Type 0 where
-  pub responder : ResponderValues
-  pub there : slice_get hs r ≡ Some responder
-  pub of_the_kind : eqb responder.kind lengths.kind ≡ true
-  pub rows : ltb lent.rows lent.rows_needed ≡ false
-  pub ports : ltb lent.ports port_count ≡ false
-  pub reply : ltb lent.reply (lengths.head + 4080) ≡ false
-
--- a test that was passed, and what follows it
-passed : {A : Type 0} (b : Bool) (q : Refusal) (rest : Result A Refusal) (a : A) → Ok a ≡ refuse_if b q rest → (b ≡ false) × (Ok a ≡ rest)
-passed true q rest a e = let z : ◌≡◌ {A = ℕ} 0 1 = cc in absurd (omega arith)
-passed false q rest a e = (refl, e)
-
-not-false : (b : Bool) → not b ≡ false → b ≡ true
-not-false true e = refl
-not-false false e = sym e
-
-admitted_by : (hs : List ResponderValues) (port_count r : ℕ) (lengths : Lengths) (lent : Lent) (o : Option ResponderValues) → slice_get hs r ≡ o
-    → Ok tt ≡ admitted_at o port_count r lengths lent → Admitted hs port_count r lengths lent
-admitted_by hs port_count r lengths lent None e h = let z : ◌≡◌ {A = ℕ} 0 1 = cc in absurd (omega arith)
-admitted_by hs port_count r lengths lent (Some x) e h =
-    let a = passed _ _ _ tt h in
-    let b = passed _ _ _ tt a.1 in
-    let c = passed _ _ _ tt b.1 in
-    let d = passed _ _ _ tt c.1 in
-    record { responder = x; there = e; of_the_kind = not-false _ a.0; rows = b.0; ports = c.0; reply = d.0 }
-
-pub admitted : (hs : List ResponderValues) (port_count r : ℕ) (lengths : Lengths) (lent : Lent) → Ok tt ≡ admission hs port_count r lengths lent
-    → Admitted hs port_count r lengths lent
-admitted hs port_count r lengths lent e = admitted_by hs port_count r lengths lent (slice_get hs r) refl e
+pub admitted_below : (x : Subsystem) (r : ℕ) (lengths : Lengths) (lent : Lent) → Ok tt ≡ admission (responders_of x) x.port_count r lengths lent
+    → r < length x.responders.items
+admitted_below x r lengths lent e =
+    let h = admitted_there (slice_get (responders_of x) r) x.port_count r lengths lent e in
+    omega (arith, slice_get_within (responders_of x) r h.0 h.1, in_use x)

@@ -1,7 +1,9 @@
 -- Controllers by their ID and by their place.
-use Rattle.std.proofs.Common.{◌≡◌, ℕ, zero, suc, ◌+◌, ◌-◌, ◌^◌, ◌<◌, ◌≤◌, true, false, eqb, List, [], ◌∷◌, map, length, get_or, set, Some, None, sym, refl, ap, ◌∙◌, subst, ap₂, ⊎_elim, arith}
+use Rattle.std.proofs.Common.{◌≡◌, ℕ, zero, suc, ◌+◌, ◌-◌, ◌^◌, ◌<◌, ◌≤◌, true, false, eqb, List, [], ◌∷◌, map, length, get_or, set, Some, None, Option, sym, refl, ap, ◌∙◌, subst, ap₂, ⊎_elim, arith}
 use lib.Bits.{bit_or, or_zero_l, or_zero_r}
 use Rattle.std.specs.List.{slice_get}
+use Rattle.std.specs.Option.{option_map}
+use Rattle.std.proofs.lemmas.Option.{none-some, slice_get_within}
 use Rattle.std.proofs.lemmas.Bool.{lt-ltb, eq-eqb, ne_eqb, cases_lt, or_right}
 use Rattle.health.specs.Values.{reported_health}
 use Rattle.health.specs.Words.{without}
@@ -10,7 +12,8 @@ use Rattle.health.specs.Status.{events_in}
 use Rattle.health.specs.declared.report.Report.{Report}
 use Rattle.health_rules.specs.FlagRule.{gained}
 use Rattle.table.proofs.Places.{not_below}
-use Rattle.register.specs.Controllers.{ControllerValues, first_from, present, written}
+use Rattle.register.specs.declared.controller.Controller.{Controller}
+use Rattle.register.specs.Controllers.{ControllerValues, controller_of, first_from, present, written}
 use Rattle.polls.proofs.Steps.{nth_within}
 use Rattle.model.proofs.Controllers.{Ascends}
 use Rattle.model.specs.Reports.{renewed, marked_row, risen, each_row, union, marked}
@@ -18,15 +21,9 @@ use Rattle.model.specs.Requests.{largest_id}
 use Rattle.model.specs.State as model
 use Rattle.subsystem.specs.Marks.{marked_at}
 
--- an element stands below the length
-pub nth_below : {X : Type 0} (xs : List X) (k : ℕ) (x : X) → slice_get xs k ≡ Some x → k < length xs
-nth_below [] k x e = let z : ◌≡◌ {A = ℕ} 0 1 = cc in absurd (omega arith)
-nth_below (y ∷ xs) zero x e = omega arith
-nth_below (y ∷ xs) (suc k) x e = let h = nth_below xs k x e in omega arith
-
 -- a controller of a list has its ID
 pub present_at : (id : ℕ) (cs : List ControllerValues) (k : ℕ) (c : ControllerValues) → slice_get cs k ≡ Some c → c.id ≡ id → present id cs ≡ true
-present_at id [] k c e h = let z : ◌≡◌ {A = ℕ} 0 1 = cc in absurd (omega arith)
+present_at id [] k c e h = absurd (none-some c e)
 present_at id (x ∷ cs) zero c e h = let s : x ≡ c = cc in simp (eq-eqb x.id id (ap (λ v. v.id) s ∙ h))
 present_at id (x ∷ cs) (suc k) c e h = or_right (eqb x.id id) (present id cs) (present_at id cs k c e h)
 
@@ -36,7 +33,7 @@ absent_past id [] e = refl
 absent_past id (x ∷ cs) e =
     ⊎_elim
     (λ (lt : x.id < id). simp (ne_eqb x.id id (λ q. omega arith)) (absent_past id cs (simp (lt-ltb x.id id lt) at e)))
-    (λ (ge : id ≤ x.id). let q : Some x ≡ None = simp (not_below x.id id ge) at e in let z : ◌≡◌ {A = ℕ} 0 1 = cc in absurd (omega arith))
+    (λ (ge : id ≤ x.id). let q : Some x ≡ None = simp (not_below x.id id ge) at e in absurd (none-some x (sym q)))
     (cases_lt x.id id)
 
 -- IDs below the first are absent
@@ -76,7 +73,7 @@ no_controller {X} (x ∷ xs) e = absurd (nth_within (x ∷ xs) (length {A = X} (
 -- the largest ID is that of the last controller
 pub largest_is_last : (m : ℕ) (cs : List ControllerValues) (c : ControllerValues) → Ascends m cs → slice_get cs (length cs - 1) ≡ Some c
     → (m ≤ largest_id cs) × (largest_id cs ≡ c.id)
-largest_is_last m [] c a e = let z : ◌≡◌ {A = ℕ} 0 1 = cc in absurd (omega arith)
+largest_is_last m [] c a e = absurd (none-some c e)
 largest_is_last m (x ∷ []) c a e =
     let s : x ≡ c = cc in
     let id : x.id ≡ c.id = ap (λ v. v.id) s in
@@ -87,6 +84,12 @@ largest_is_last m (x ∷ (y ∷ cs)) c a e =
     let same : length {A = ControllerValues} (x ∷ (y ∷ cs)) - 1 ≡ suc (length {A = ControllerValues} (y ∷ cs) - 1) = omega arith in
     let rest = largest_is_last (x.id + 1) (y ∷ cs) c a.2 (subst (λ (k : ℕ). slice_get {X = ControllerValues} (x ∷ (y ∷ cs)) k ≡ Some c) same e) in
     (omega (arith, rest.0), omega (arith, rest.0, rest.1))
+
+-- what is read of the last controller, 0 where there is none
+pub largest_is : (cs : List ControllerValues) (o : Option Controller) (n : ℕ) → Ascends 0 cs → option_map controller_of o ≡ slice_get cs (length cs - 1)
+    → (o ≡ None → n ≡ 0) → ((c : Controller) → o ≡ Some c → n ≡ c.id) → n ≡ largest_id cs
+largest_is cs None n a e none some = none refl ∙ sym (ap largest_id (no_controller cs (sym e)))
+largest_is cs (Some c) n a e none some = some c refl ∙ sym (largest_is_last 0 cs (controller_of c) a (sym e)).1
 
 -- ---- a report of the controller at a place
 
@@ -111,7 +114,7 @@ module _ (id : ℕ) (p : Report) where
   -- the controller with the ID stands at a place
   module _ (c : ControllerValues) (has_it : c.id ≡ id) where
     above_first : (m : ℕ) (cs : List ControllerValues) (k : ℕ) → Ascends m cs → slice_get cs k ≡ Some c → m ≤ c.id
-    above_first m [] k a e = let z : ◌≡◌ {A = ℕ} 0 1 = cc in absurd (omega arith)
+    above_first m [] k a e = absurd (none-some c e)
     above_first m (x ∷ cs) zero a e = let s : x ≡ c = cc in subst (λ (v : ControllerValues). m ≤ v.id) s a.0
     above_first m (x ∷ cs) (suc k) a e = let above = a.0 in let rest = above_first (x.id + 1) cs k a.2 e in omega arith
 
@@ -136,7 +139,7 @@ module _ (id : ℕ) (p : Report) where
     pub marked_by_place : (m : ℕ) (cs : List ControllerValues) (ws : List RowValues) (k : ℕ) → Ascends m cs → slice_get cs k ≡ Some c → k < length ws
         → (each_row (marked_row id p) cs ws ≡ set ws k (gaining (gained c.health p) (events_in p.status) (get_or ws k clear_row)))
         × (union (risen id p) cs ws ≡ without (gained c.health p) (get_or ws k clear_row).changed)
-    marked_by_place m [] ws k a e l = let z : ◌≡◌ {A = ℕ} 0 1 = cc in absurd (omega arith)
+    marked_by_place m [] ws k a e l = absurd (none-some c e)
     marked_by_place m (x ∷ cs) [] k a e l = absurd (omega arith)
     marked_by_place m (x ∷ cs) (w ∷ ws) zero a e l =
         let s : x ≡ c = cc in

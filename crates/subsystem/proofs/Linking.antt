@@ -1,6 +1,7 @@
 -- The port that is looked for by its identifier.
 use Rattle.std.proofs.Common.{◌≡◌, ℕ, zero, suc, ◌+◌, ◌<◌, Bool, true, false, cond, ◌||◌, eqb, List, [], ◌∷◌, length, get_or, set, Some, None, sym, refl, ap, ◌∙◌, arith}
 use Rattle.std.specs.List.{position, position_from}
+use Rattle.std.proofs.lemmas.Option.{none-some}
 use Rattle.std.proofs.lemmas.List.Quantifiers.{position-Some}
 use Rattle.std.proofs.lemmas.Iterator.Adapters.{position_from-zero}
 use Rattle.register.specs.declared.port.Port.{Port}
@@ -15,7 +16,7 @@ Unlinked id up ports = (is_port id ports ≡ false) × (linked_ports id up ports
 passed : (id : ℕ) (up : Bool) (i : ℕ) (p : Port) (ports : List Port) → (position_from (has_id id) (i + 1) ports ≡ None → Unlinked id up ports)
     → (b : Bool) → cond b (Some i) (position_from (has_id id) (i + 1) ports) ≡ None
     → ((b || is_port id ports) ≡ false) × (cond b (record { id = p.id; link_up = up } ∷ ports) (p ∷ linked_ports id up ports) ≡ p ∷ ports)
-passed id up i p ports behind true e = let z : ◌≡◌ {A = ℕ} 0 1 = cc in absurd (omega arith)
+passed id up i p ports behind true e = absurd (none-some i (sym e))
 passed id up i p ports behind false e = let u = behind e in (u.0, ap (λ l. p ∷ l) u.1)
 
 no_port_from : (id : ℕ) (up : Bool) (i : ℕ) (ports : List Port) → position_from (has_id id) i ports ≡ None → Unlinked id up ports

@@ -1,7 +1,7 @@
 -- A call that changes one Responder and its rows, and no other.
 use Rattle.std.proofs.Common.{◌≡◌, ℕ, zero, suc, ◌+◌, ◌*◌, ◌<◌, ◌≤◌, List, [], ◌∷◌, ◌++◌, map, length, get_or, take, drop, set, Some, None, sym, refl, ap, ◌∙◌, subst, ap₂, arith}
 use borrow.Rule.Slice.PartMut.{put_mid, same_len_mid, mid_of}
-use Rattle.std.specs.List.{slice_get}
+use Rattle.std.specs.List.{slice_get, refill}
 use Rattle.std.proofs.lemmas.List.{length-map, length-append, length-set, length-take-le, length-drop, map-append, map-set, take-map, drop-map, get_or-map}
 use Rattle.std.proofs.lemmas.Option.{slice_get-get_or, slice_get_past}
 use Rattle.std.proofs.lemmas.Slice.{drop-put_mid}
@@ -17,7 +17,7 @@ use Rattle.subsystem.specs.States.{with_its_rows, state_from, drive_of, responde
 use Rattle.subsystem.specs.declared.responder.Responder.{Responder}
 use Rattle.subsystem.specs.declared.service.Subsystem.{Subsystem}
 use Rattle.subsystem.proofs.RowGroups.{rows_within, nth_responders, responder_changed, state_with_rest}
-use Rattle.subsystem.proofs.Reporting.{in_use, count_is}
+use Rattle.subsystem.proofs.Reporting.{in_use, count_is, given_back}
 
 -- below the length there is an element
 some_below : {X : Type 0} (xs : List X) (r : ℕ) → r < length xs → (y : X) × (slice_get xs r ≡ Some y)
@@ -69,6 +69,12 @@ map-put_mid : {X Y : Type 0} (f : X → Y) (a k : ℕ) (xs ys : List X) → map 
 map-put_mid f a k xs ys =
     map-append f (take a xs) (ys ++ drop k (drop a xs))
     ∙ ap₂ (λ u v. u ++ v) (sym (take-map f a xs)) (map-append f ys (drop k (drop a xs)) ∙ ap (λ v. map f ys ++ v) (sym (ap (drop k) (drop-map f a xs) ∙ drop-map f k (drop a xs))))
+
+-- elements that were lent and given back, changed at one place
+pub one_given_back : {X : Type 0} (f : X → X) (xs lent : List X) (r : ℕ) (d : X) → lent ≡ xs
+    → refill (length xs) xs (set lent r (f (get_or lent r d))) ≡ set xs r (f (get_or xs r d))
+one_given_back f xs lent r d e =
+    ap (λ l. refill (length xs) xs (set l r (f (get_or l r d)))) e ∙ given_back xs (set xs r (f (get_or xs r d))) (length-set xs r (f (get_or xs r d)))
 
 -- a Responder of the code that is in use
 pub nth_in_use : (x : Subsystem) (r : ℕ) (d : Responder) → r < length x.responders.items → slice_get (responders_of x) r ≡ Some (responder_of (get_or x.responders.items r d))

@@ -15,17 +15,12 @@ use Rattle.model.specs.ServiceRefusals.{memory_too_short, nothing_to_open}
 use Rattle.model.specs.Fitting.{Fitted, rows_to_open, open_answer, opened, new_responder, initial_status}
 use Rattle.subsystem.specs.Responders.{ResponderValues, no_composite}
 use Rattle.subsystem.specs.States.{with_its_rows, responders_with_rows, state_from}
-use Rattle.subsystem.proofs.Checks.{test_passed}
+use Rattle.subsystem.proofs.Checks.{passed}
 use Rattle.subsystem.proofs.RowGroups.{suc_mul_front, state_with_rest}
 
 -- a granted opening has rows enough
 pub open_room : (b : Fitted) (m : RegisterValues) (ws : List RowValues) → ◌≡◌ {A = Result (Unit {0}) Refusal} (Ok tt) (open_answer b m ws) → rows_to_open b m ≤ length ws
-open_room b m ws e = ltb-false (length ws) (rows_to_open b m) (go (eqb (length b.kinds) 0 || eqb (length m.controllers) 0) e)
-  where
-    go : (t : Bool) → ◌≡◌ {A = Result (Unit {0}) Refusal} (Ok tt) (refuse_if t nothing_to_open (refuse_if (ltb (length ws) (rows_to_open b m)) (memory_too_short (rows_to_open b m)) (Ok tt)))
-        → ltb (length ws) (rows_to_open b m) ≡ false
-    go true f = let z : ◌≡◌ {A = ℕ} 0 1 = cc in absurd (omega arith)
-    go false f = test_passed (ltb (length ws) (rows_to_open b m)) (memory_too_short (rows_to_open b m)) f
+open_room b m ws e = ltb-false (length ws) (rows_to_open b m) (passed _ _ _ tt (passed _ _ _ tt e).1).0
 
 -- the first n rows, lent, cleared and given back
 pub rows_cleared : (n : ℕ) (rows part : List Row) → n ≤ length rows → map row_of part ≡ replicate (length (mid_of 0 (n - 0) rows)) clear_row

@@ -1,6 +1,7 @@
 -- The cases of a report.
 use Rattle.std.proofs.Common.{◌≡◌, ℕ, zero, suc, ◌*◌, ◌<◌, ◌≤◌, true, false, ltb, List, [], ◌∷◌, ◌++◌, map, length, take, drop, Some, Ok, Err, Result, sym, refl, ap, ◌∙◌, subst, ap₂, suc-mul, arith}
 use Rattle.std.specs.List.{slice_get, refill}
+use Rattle.std.proofs.lemmas.Option.{slice_get_within}
 use Rattle.std.proofs.lemmas.List.{length-map, length-take-le, length-drop, take_at, map-append}
 use Rattle.health.specs.Rows.{RowValues, row_of}
 use Rattle.health.specs.Status.{events_in}
@@ -24,7 +25,7 @@ use Rattle.subsystem.specs.Marks.{marked_at}
 use Rattle.subsystem.specs.declared.responder.Responder.{Responder}
 use Rattle.subsystem.specs.declared.service.Subsystem.{Subsystem}
 use Rattle.subsystem.proofs.Checks.{test_refused}
-use Rattle.subsystem.proofs.Finding.{nth_below, renewed_is_written, marked_is_at}
+use Rattle.subsystem.proofs.Finding.{renewed_is_written, marked_is_at}
 use Rattle.subsystem.proofs.RowGroups.{length_responders, state_with_rest}
 
 -- how many Responders are in use
@@ -127,7 +128,7 @@ module _ (x : Subsystem) (m : RegisterValues) (rows rest : List Row) (ports : Li
       let count : length hs ≡ length x.responders.items = in_use x in
       let many : length lent ≡ length hs = ap length el ∙ sym (length-map x.responders.items responder_of) in
       let done = report_done (drive_of x m ports) hs (map responder_of part) ws (map row_of rows') (map row_of rest) id p k c a at_k has_id
-      (nth_below cs k c at_k) (length-map part responder_of ∙ ep ∙ many)
+      (slice_get_within cs k c at_k) (length-map part responder_of ∙ ep ∙ many)
       (subst (λ (v : ℕ). v * length cs ≤ length ws) (sym count) (simp length-map room)) (length-map rows' row_of ∙ er ∙ sym (length-map rows row_of))
       (ap (λ v. responders_with_rows v (map responder_of part) (map row_of rows')) (sym en) ∙ marks ∙ (λ i. map (marked_at k (eg i) (ee i)) (responders_with_rows (en i) (map responder_of (el i)) ws)))
       ((λ i. drop (sym many i * sym en i) (map row_of rows')) ∙ spare ∙ (λ i. drop (many i * en i) ws)) in

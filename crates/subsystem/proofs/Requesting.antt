@@ -1,11 +1,13 @@
 -- The cases of a request.
-use Rattle.std.proofs.Common.{◌≡◌, ℕ, zero, suc, ◌*◌, Bool, true, false, not, eqb, ltb, List, [], ◌∷◌, ◌++◌, map, length, take, drop, Some, None, Ok, Err, Option, Result, sym, refl, ap, ◌∙◌, arith}
+use Rattle.std.proofs.Common.{◌≡◌, ℕ, zero, suc, ◌*◌, Bool, true, false, not, eqb, ltb, List, [], ◌∷◌, ◌++◌, map, length, take, drop, Some, None, Ok, Err, Option, Result, sym, refl, ap, ◌∙◌, subst, arith}
 use Rattle.std.specs.List.{slice_get}
+use Rattle.std.proofs.lemmas.Option.{none-some}
 use Rattle.health.specs.Rows.{RowValues, row_of}
 use Rattle.health.specs.declared.row.Row.{Row}
 use Rattle.wire.specs.Refusals.{Refusal, refuse_if, space_too_short}
 use Rattle.wire.specs.Meaning.{CarrierMeaning, lengths_of}
 use Rattle.wire.specs.declared.message.Request.{Request}
+use Rattle.wire.specs.declared.message.Lengths.{Lengths}
 use Rattle.register.specs.Registers.{RegisterValues}
 use Rattle.register.specs.declared.port.Port.{Port}
 use Rattle.model.specs.State.{State, with_responders}
@@ -19,6 +21,7 @@ use Rattle.subsystem.specs.Replies.{Exchange, length_answered, reply_after, exch
 use Rattle.subsystem.specs.Admission.{lent_enough, admitted_at, admission}
 use Rattle.subsystem.specs.declared.lent.Lent.{Lent}
 use Rattle.subsystem.specs.declared.service.Subsystem.{Subsystem}
+use Rattle.subsystem.proofs.Admitting.{admitted_there}
 use Rattle.subsystem.proofs.RowGroups.{nth_responders}
 use Rattle.subsystem.proofs.Reporting.{count_is}
 
@@ -61,7 +64,7 @@ test_first false q a o = refl
 
 nth_none : (c : ℕ) (hs : List ResponderValues) (ws : List RowValues) (r : ℕ) → slice_get hs r ≡ None → slice_get (responders_with_rows c hs ws) r ≡ None
 nth_none c [] ws r e = refl
-nth_none c (h ∷ hs) ws zero e = let z : ◌≡◌ {A = ℕ} 0 1 = cc in absurd (omega arith)
+nth_none c (h ∷ hs) ws zero e = absurd (none-some h (sym e))
 nth_none c (h ∷ hs) ws (suc r) e = nth_none c hs (drop c ws) r e
 
 module _ (x : Subsystem) (m : RegisterValues) (rows : List Row) (ports : List Port) (r : ℕ) (k : CarrierMeaning) (bytes : List ℕ) (lent : Lent)
@@ -115,3 +118,45 @@ module _ (x : Subsystem) (m : RegisterValues) (rows : List Row) (ports : List Po
 
   pub not_admitted : (f : Refusal) → Err f ≡ admission (responders_of x) x.port_count r (lengths_of k) lent → whole ≡ refuse f
   not_admitted f e = refused_by (slice_get (responders_of x) r) refl f e
+
+-- ---- the answers of serve, from what the calls below promise
+
+abbrev pub lent_to : ℕ → List Row → List Port → List ℕ → Lent
+lent_to needed rows ports reply = record { rows_needed = needed; rows = length rows; ports = length ports; reply = length reply }
+
+module _ (x : Subsystem) (m : RegisterValues) (rows : List Row) (ports : List Port) (r : ℕ) (k : CarrierMeaning) (bytes : List ℕ) (lent : Lent)
+    (needed : lent.rows_needed ≡ length x.responders.items * length m.controllers) (lengths : Lengths) (meant : lengths ≡ lengths_of k) (reply : List ℕ) where
+  abbrev before : State
+  before = state_of x m rows ports
+
+  abbrev exchange : Exchange
+  exchange = exchanged (step before (request r k lent.rows lent.ports bytes lent.reply)) reply
+
+  as_meant : (o : Result (Unit {0}) Refusal) → o ≡ admission (responders_of x) x.port_count r lengths lent → o ≡ admission (responders_of x) x.port_count r (lengths_of k) lent
+  as_meant o e = e ∙ ap (λ l. admission (responders_of x) x.port_count r l lent) meant
+
+  pub serve_not_admitted : (f : Refusal) → Err f ≡ admission (responders_of x) x.port_count r lengths lent → record { answer = Err f; reply = reply; state = before } ≡ exchange
+  serve_not_admitted f e = request_refused before r k lent.rows lent.ports bytes lent.reply reply f (not_admitted x m rows ports r k bytes lent needed f (as_meant (Err f) e))
+
+  module _ (e : Ok tt ≡ admission (responders_of x) x.port_count r lengths lent) where
+    found : (h : ResponderValues) × (slice_get (responders_of x) r ≡ Some h)
+    found = admitted_there (slice_get (responders_of x) r) x.port_count r lengths lent e
+
+    abbrev asked : model.Responder
+    asked = own x m rows ports r k bytes lent needed found.0 found.1
+
+    read_then : request_outcome before.drive (count_of_responders before) (responder_at before r) r k lent.rows lent.ports bytes lent.reply
+        ≡ reply_to before.drive asked k (k.read_request bytes)
+    read_then = admitted_then x m rows ports r k bytes lent needed found.0 found.1 (as_meant (Ok tt) e)
+
+    pub serve_unread : (f : Refusal) → Err f ≡ k.read_request bytes → record { answer = Err f; reply = reply; state = before } ≡ exchange
+    serve_unread f read = request_refused before r k lent.rows lent.ports bytes lent.reply reply f (read_then ∙ ap (reply_to before.drive asked k) (sym read))
+
+    pub serve_answered : (q : Request) (n : ℕ) (after : List ℕ) (s' : State) (at : ℕ) → Ok q ≡ k.read_request bytes → at ≡ r
+        → ((y : model.Responder) → responder_at before at ≡ Some y → Responds k before at y q n reply after s')
+        → record { answer = Ok n; reply = after; state = s' } ≡ exchange
+    serve_answered q n after s' at read is h =
+        request_granted before r k lent.rows lent.ports bytes lent.reply reply asked q n after s'
+        (subst (λ (v : ℕ). (y : model.Responder) → responder_at before v ≡ Some y → Responds k before v y q n reply after s') is h asked
+        (own_there x m rows ports r k bytes lent needed found.0 found.1))
+        (read_then ∙ ap (reply_to before.drive asked k) (sym read))

@@ -3,6 +3,7 @@ use Rattle.std.proofs.Common.{◌≡◌, ℕ, zero, suc, ◌+◌, ◌*◌, ◌<�
 use lib.Seq.{take-set-lt}
 use borrow.Rule.Slice.PartMut.{put_mid}
 use Rattle.std.specs.List.{slice_get}
+use Rattle.std.proofs.lemmas.Option.{none-some}
 use Rattle.std.proofs.lemmas.List.{length-drop, take-append-le, drop-append-le, drop-drop, drop-set-lt, drop-set-add, take-set-le, get_or-take, get_or-drop, take_at, drop_at}
 use Rattle.std.proofs.lemmas.Slice.{take-put_mid_below}
 use Rattle.health.specs.Rows.{RowValues, clear_row, gaining}
@@ -42,7 +43,7 @@ module _ (c : ℕ) where
   -- the Responder with a number, and its rows
   pub nth_responders : (hs : List ResponderValues) (ws : List RowValues) (r : ℕ) (h : ResponderValues) → slice_get hs r ≡ Some h
       → slice_get (responders_with_rows c hs ws) r ≡ Some (with_its_rows h (take c (drop (r * c) ws)))
-  nth_responders [] ws r h e = let z : ◌≡◌ {A = ℕ} 0 1 = cc in absurd (omega arith)
+  nth_responders [] ws r h e = absurd (none-some h e)
   nth_responders (x ∷ hs) ws zero h e = let s : x ≡ h = cc in
       ap (λ v. Some (with_its_rows v (take c ws))) s ∙ ap (λ k. Some (with_its_rows h (take c (drop k ws)))) (sym (zero-mul c))
   nth_responders (x ∷ hs) ws (suc r) h e =

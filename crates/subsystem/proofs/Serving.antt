@@ -11,13 +11,9 @@ use Rattle.register.specs.Registers.{RegisterValues}
 use Rattle.model.specs.State.{Responder}
 use Rattle.model.specs.Requests.{Served, qualifies, cleared, returned, entries, largest_id, with_rows, polled, health_poll}
 use Rattle.model.proofs.Entries.{chosen_at_most}
+use Rattle.subsystem.proofs.Checks.{passed}
 use Rattle.subsystem.specs.Replies.{ReplyIs, polled_drive, responder_with}
 use Rattle.subsystem.specs.declared.answer.Answered.{Answered}
-
--- an answer that passed its test
-passed : (b : Bool) (q : Refusal) (n k : ℕ) → ◌≡◌ {A = Result ℕ Refusal} (Ok n) (refuse_if b q (Ok k)) → (b ≡ false) × (n ≡ k)
-passed true q n k e = let z : ◌≡◌ {A = ℕ} 0 1 = cc in absurd (omega arith)
-passed false q n k e = (refl, cc)
 
 length-entries : (es : List (ControllerValues × RowValues)) → length (entries es) ≡ 16 * length es
 length-entries [] = refl
@@ -30,10 +26,10 @@ module _ (p : ControllerHealthPoll) (m : RegisterValues) (ws : List RowValues) (
   cs = m.controllers
 
   room : ltb (length before) (entries_space p) ≡ false
-  room = (passed (ltb (length before) (entries_space p)) (space_too_short (entries_space p)) found (length (returned p cs ws)) answered).0
+  room = (passed _ _ _ found answered).0
 
   pub found_is : found ≡ length (returned p cs ws)
-  found_is = (passed (ltb (length before) (entries_space p)) (space_too_short (entries_space p)) found (length (returned p cs ws)) answered).1
+  found_is = let same : ◌≡◌ {A = Result ℕ Refusal} (Ok found) (Ok (length (returned p cs ws))) = (passed (ltb (length before) (entries_space p)) (space_too_short (entries_space p)) _ found answered).1 in cc
 
   pub found_at_most : found ≤ p.maxrent + 1
   found_at_most = let l = chosen_at_most (qualifies p) (p.maxrent + 1) cs ws in omega (arith, found_is)

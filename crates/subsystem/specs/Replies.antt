@@ -31,6 +31,11 @@ pub record ReplyIs (v : Served) (kind : ℕ) (r : Answered) (rows : List RowValu
   pub writes_the_data : after ≡ v.payload ++ drop (length v.payload) before
   pub leaves_the_responder : responder_with kind r.composite.bits rows ≡ v.responder
 
+-- a request is served so, whatever the kind of the Responder, by a drive that shows this, over these composite flags and rows
+abbrev pub Serves : RegisterValues → SubsystemStatus → List Port → ℕ → List RowValues → Request → Answered → List RowValues → List ℕ → List ℕ → Type 0
+Serves m status ports composite ws q r ws' before after =
+    (kind : ℕ) → ReplyIs (served (drive_shown m status ports) (responder_with kind composite ws) q) kind r ws' before after
+
 -- ---- a call
 
 -- the bytes of a reply over a carrier

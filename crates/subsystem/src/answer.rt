@@ -1,11 +1,11 @@
 // What a request that was read is answered, at one Responder.
-ghost use Rattle.std.specs.Prelude.{◌≡◌, ℕ, ◌*◌, ◌^◌, ◌≤◌, cond, List, ◌++◌, map, length, drop, Ok};
+ghost use Rattle.std.specs.Prelude.{◌≡◌, ℕ, ◌*◌, ◌^◌, ◌≤◌, cond, List, map, Ok};
 ghost use Rattle.health.specs.Rows.{RowValues, row_of};
 ghost use Rattle.polls.specs.Shown.{status_of};
 ghost use Rattle.commands.specs.Commands.{asked_of, subsystem_poll};
 ghost use Rattle.commands.specs.Status.{head_of};
-ghost use Rattle.model.specs.Requests.{largest_id, health_poll, by_command, served};
-ghost use Rattle.subsystem.specs.Replies.{ReplyIs, polled_drive, drive_shown, responder_with};
+ghost use Rattle.model.specs.Requests.{largest_id, health_poll, by_command};
+ghost use Rattle.subsystem.specs.Replies.{ReplyIs, Serves, polled_drive, drive_shown, responder_with};
 
 use commands::{ControllerHealthPoll, ErrorReply, HealthCommand};
 use health::{ChangedFlags, Row};
@@ -67,10 +67,7 @@ fn head_alone(head: Head, composite: ChangedFlags) -> Answered
 fn largest_id<R: Register>(register: &R) -> u16
     ensures { result ≡ largest_id (R.Register.meaning register.now).controllers }
 {
-    match register.get(register.len().saturating_sub(1)) {
-        Some(controller) => controller.id,
-        None => 0,
-    }
+    register.get(register.len().saturating_sub(1)).map_or(0, |controller| controller.id)
 }
 
 // The composite flags, unless they are cleared.
@@ -82,14 +79,6 @@ fn unless_cleared(composite: ChangedFlags, clear_status: bool) -> ChangedFlags
     } else {
         composite
     }
-}
-
-// Writes bytes to the front of the payload.
-fn write_front(bytes: &[u8], payload: &mut [u8])
-    requires { length bytes.now ≤ length payload.old }
-    ensures { payload.new ≡ bytes.now ++ drop (length bytes.now) payload.old }
-{
-    payload[0..bytes.len()].copy_from_slice(bytes);
 }
 
 impl<R: Register> Polled<'_, R> {
@@ -132,7 +121,7 @@ impl<R: Register> Polled<'_, R> {
             self.ports,
             self.composite,
         ).to_bytes();
-        write_front(&bytes, payload);
+        payload[..8].copy_from_slice(&bytes);
         Answered {
             head: success(0),
             length: 8,
@@ -170,7 +159,7 @@ impl<R: Register> Polled<'_, R> {
         request: Request,
         payload: &mut Payload,
     ) -> Answered
-        ensures { (kind : ℕ) → ReplyIs (served (drive_shown (R.Register.meaning self.now.register.now) (status_of self.now.status) self.now.ports.now) (responder_with kind self.now.composite.bits (map row_of own.old)) request) kind result (map row_of own.new) payload.old payload.new }
+        ensures { Serves (R.Register.meaning self.now.register.now) (status_of self.now.status) self.now.ports.now self.now.composite.bits (map row_of own.old) request result (map row_of own.new) payload.old payload.new }
     {
         if request.surplus != 0 {
             return head_alone(ErrorReply::InvalidCommandSize.into(), self.composite);

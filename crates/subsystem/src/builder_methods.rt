@@ -6,6 +6,7 @@ ghost use Rattle.subsystem.specs.Faults.{in_numbers};
 use crate::builder::SubsystemBuilder;
 use crate::fault::Fault;
 use crate::fitting::controller_from;
+use crate::memory::check_length;
 use arrayvec::ArrayVec;
 use health::Report;
 use register::{Port, Register};
@@ -32,9 +33,7 @@ impl SubsystemBuilder {
             return Err(Fault::NoKind);
         }
         let count = self.kinds.len();
-        if self.kinds.try_push(kind).is_err() {
-            return Err(Fault::NinthResponder);
-        }
+        self.kinds.try_push(kind).map_err(|_| Fault::NinthResponder)?;
         Ok(count as u8)
     }
 
@@ -52,9 +51,7 @@ impl SubsystemBuilder {
         ensures a_refusal_changes_nothing { is_ok result ≡ false → register.new ≡ register.old }
         ensures leaves_the_builder { self.new ≡ self.old }
     {
-        let Some(controller) = controller_from(id, function, first) else {
-            return Err(Fault::Malformed { id });
-        };
+        let controller = controller_from(id, function, first).ok_or(Fault::Malformed { id })?;
         register.enroll(controller)?;
         Ok(())
     }
@@ -70,9 +67,7 @@ impl SubsystemBuilder {
         if count >= 8 {
             return Err(Fault::NinthPort);
         }
-        if ports.len() < count + 1 {
-            return Err(Fault::MemoryTooShort { needed: count + 1 });
-        }
+        check_length(ports.len(), count + 1)?;
         insert_into(ports, count, Port { id, link_up: false })?;
         self.port_count = count + 1;
         Ok(())

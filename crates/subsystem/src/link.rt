@@ -27,9 +27,7 @@ fn link_port(ports: &mut [Port], id: u8, up: bool) -> Result<(), Fault>
     ensures links_the_first { ports.new ≡ linked_ports id up ports.old }
     ensures a_refusal_changes_nothing { is_ok result ≡ false → ports.new ≡ ports.old }
 {
-    let Some(place) = place_of(ports, id) else {
-        return Err(Fault::UnknownIdentifier { id: u16::from(id) });
-    };
+    let place = place_of(ports, id).ok_or(Fault::UnknownIdentifier { id: u16::from(id) })?;
     ports[place].link_up = up;
     Ok(())
 }

@@ -1,4 +1,4 @@
-// How much memory a call is lent, and where a row stands in it.
+// The tests of the memory that a call is lent, and the places of the rows in it.
 ghost use Rattle.std.specs.Prelude.{◌≡◌, ◌+◌, ◌*◌, ◌^◌, ◌<◌, ◌≤◌, length, Ok, nat_lt};
 ghost use Rattle.wire.specs.Refusals.{refuse_if};
 ghost use Rattle.model.specs.ServiceRefusals.{memory_too_short};
@@ -8,7 +8,7 @@ use crate::fault::Fault;
 use register::Register;
 use std::ops::Range;
 
-// Where rows stand in lent memory: one for each Responder and controller, those of the first Responder first.
+// A layout of the rows in lent memory: there is one row for each Responder and controller, and those of the first Responder stand first.
 #[derive(Clone, Copy)]
 pub(crate) struct Layout {
     pub(crate) responders: usize,
@@ -17,11 +17,12 @@ pub(crate) struct Layout {
 }
 
 impl Layout {
-    // Of the rows of so many Responders, for each controller of a register.
+    // Makes the layout for so many Responders and the controllers of a register.
     pub(crate) fn of<R: Register>(register: &R, responders: usize) -> Self
         requires { responders ≤ 8 }
         ensures for_the_responders { result.responders ≡ responders }
         ensures for_the_controllers { result.controllers ≡ length (R.Register.meaning register.now).controllers }
+        ensures for_both { result.responders * result.controllers ≡ responders * length (R.Register.meaning register.now).controllers }
     {
         Layout {
             responders,
@@ -29,7 +30,7 @@ impl Layout {
         }
     }
 
-    // How many rows there are.
+    // Answers how many rows there are.
     pub(crate) fn needed(self) -> usize
         ensures { result ≡ self.responders * self.controllers }
     {

@@ -1,3 +1,5 @@
+ghost use Rattle.std.specs.Prelude.{◌≡◌};
+
 use crate::builder::SubsystemBuilder;
 use crate::fault::Fault;
 
@@ -6,4 +8,13 @@ use crate::fault::Fault;
 pub struct NotOpened {
     pub builder: SubsystemBuilder,
     pub fault: Fault,
+}
+
+// Of a refused opening the fault alone climbs.
+impl From<NotOpened> for Fault {
+    ghost from_gives = { λ n f. f ≡ n.fault };
+
+    fn from(refused: NotOpened) -> Fault {
+        refused.fault
+    }
 }

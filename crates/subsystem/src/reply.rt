@@ -1,9 +1,8 @@
 // A reply in its memory: the head, and the data from the end of the head on.
-ghost use Rattle.std.specs.Prelude.{◌≡◌, ℕ, ◌+◌, ◌≤◌, ◌++◌, map, length, drop};
+ghost use Rattle.std.specs.Prelude.{◌≡◌, ◌+◌, ◌≤◌, ◌++◌, map, length, drop};
 ghost use Rattle.health.specs.Rows.{row_of};
 ghost use Rattle.polls.specs.Shown.{status_of};
-ghost use Rattle.model.specs.Requests.{served};
-ghost use Rattle.subsystem.specs.Replies.{ReplyIs, drive_shown, responder_with};
+ghost use Rattle.subsystem.specs.Replies.{Serves};
 
 use crate::answer::{Answered, Polled};
 use health::Row;
@@ -15,7 +14,7 @@ impl<R: Register> Polled<'_, R> {
     // A method of its own with a `let .. else`: through `unwrap`, or of a part of a slice, nothing is known of the memory afterwards.
     fn answer_in(&self, own: &mut [Row], asked: Request, memory: &mut [u8]) -> Answered
         requires { 4080 ≤ length memory.old }
-        ensures { (kind : ℕ) → ReplyIs (served (drive_shown (R.Register.meaning self.now.register.now) (status_of self.now.status) self.now.ports.now) (responder_with kind self.now.composite.bits (map row_of own.old)) asked) kind result (map row_of own.new) memory.old memory.new }
+        ensures { Serves (R.Register.meaning self.now.register.now) (status_of self.now.status) self.now.ports.now self.now.composite.bits (map row_of own.old) asked result (map row_of own.new) memory.old memory.new }
     {
         let Some(payload) = memory.first_chunk_mut() else {
             unreachable()
@@ -34,7 +33,7 @@ impl<R: Register> Polled<'_, R> {
         reply: &mut [u8],
     ) -> Answered
         requires { head + 4080 ≤ length reply.old }
-        ensures { (kind : ℕ) → ReplyIs (served (drive_shown (R.Register.meaning self.now.register.now) (status_of self.now.status) self.now.ports.now) (responder_with kind self.now.composite.bits (map row_of own.old)) asked) kind result (map row_of own.new) (drop head reply.old) (drop head reply.new) }
+        ensures { Serves (R.Register.meaning self.now.register.now) (status_of self.now.status) self.now.ports.now self.now.composite.bits (map row_of own.old) asked result (map row_of own.new) (drop head reply.old) (drop head reply.new) }
     {
         self.answer_in(own, asked, &mut reply[head..])
     }

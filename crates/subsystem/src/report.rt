@@ -40,9 +40,7 @@ impl Subsystem {
         }
         let layout = self.layout(register);
         check_length(rows.len(), layout.needed())?;
-        let Some(found) = find_controller(register, id) else {
-            return Err(Fault::UnknownIdentifier { id });
-        };
+        let found = find_controller(register, id).ok_or(Fault::UnknownIdentifier { id })?;
         mark_responders(
             &mut self.responders,
             rows,

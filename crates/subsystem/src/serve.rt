@@ -1,6 +1,5 @@
-ghost use Rattle.std.specs.Prelude.{◌≡◌, ◌+◌, ◌*◌, ◌<◌, ◌≤◌, false, List, ◌++◌, length, is_ok, Some, Ok, nat_lt};
+ghost use Rattle.std.specs.Prelude.{◌≡◌, ◌*◌, ◌<◌, ◌≤◌, false, List, ◌++◌, length, is_ok, Some};
 ghost use Rattle.health.specs.declared.row.Row.{Row};
-ghost use Rattle.wire.specs.Refusals.{refuse_if, space_too_short};
 ghost use Rattle.register.specs.declared.port.Port.{Port};
 ghost use Rattle.model.specs.State.{Responder};
 ghost use Rattle.model.specs.Calls.{request, step, reply_space, responder_at};
@@ -18,19 +17,7 @@ use crate::reply::write_head_before;
 use crate::service::Subsystem;
 use health::Row;
 use register::{Port, Register};
-use wire::{Carrier, Lengths, Request, WireFault};
-
-// Refuses reply memory that is shorter than a head and 255 entries.
-fn check_reply(length: usize, head: usize) -> Result<(), Fault>
-    requires { head ≤ 80 }
-    ensures { in_numbers result ≡ refuse_if (nat_lt length (head + 4080)) (space_too_short (head + 4080)) (Ok tt) }
-{
-    let needed = head + 4080;
-    if length < needed {
-        return Err(Fault::Carrier(WireFault::SpaceTooShort { needed }));
-    }
-    Ok(())
-}
+use wire::{Carrier, Lengths, Request, check_space};
 
 impl Subsystem {
     // Refuses a request whose Responder is absent or of another kind, or that is lent too little memory.
@@ -47,7 +34,8 @@ impl Subsystem {
         }
         check_length(lent.rows, lent.rows_needed)?;
         check_length(lent.ports, self.port_count)?;
-        check_reply(lent.reply, lengths.head)
+        check_space(lent.reply, lengths.head + 4080)?;
+        Ok(())
     }
 
     // Answers a request that was read, at a Responder, and writes the reply. Answers its length.
@@ -66,7 +54,6 @@ impl Subsystem {
         requires space_for_the_reply { reply_space C.Carrier.meaning ≤ length reply.old }
         ensures { (rest : List Row) (more : List Port) (x : Responder) → responder_at (state_of self.old (R.Register.meaning register.now) (rows.old ++ rest) (ports.now ++ more)) responder ≡ Some x → Responds C.Carrier.meaning (state_of self.old (R.Register.meaning register.now) (rows.old ++ rest) (ports.now ++ more)) responder x asked result reply.old reply.new (state_of self.new (R.Register.meaning register.now) (rows.new ++ rest) (ports.now ++ more)) }
     {
-        let Lengths { head, .. } = C::lengths();
         let polled = Polled {
             register,
             status: self.status,
@@ -74,13 +61,15 @@ impl Subsystem {
             composite: self.responders[responder].composite,
         };
         let own = &mut rows[self.layout(register).rows_of(responder)];
-        let answered = polled.answer_behind_head(own, asked, head, reply);
+        let answered = polled.answer_behind_head(own, asked, C::HEAD, reply);
         // No `&mut` to the Responder across the call: the borrow checker covers none beside reads of the other fields.
         self.responders[responder].composite = answered.composite;
         write_head_before::<C>(asked, answered, reply)
     }
 
     // Serves a request at a Responder: writes the reply to the front of the reply memory, and answers its length.
+    // The register, the rows and the ports are parameters and no struct: each call borrows what it needs, shared or to write, and a struct
+    // would lend more than a call needs.
     pub fn serve<C: Carrier, R: Register>(
         &mut self,
         responder: u8,

@@ -1,4 +1,4 @@
-ghost use Rattle.std.specs.Prelude.{◌≡◌, ◌≤◌, length};
+ghost use Rattle.std.specs.Prelude.{◌≡◌, ◌*◌, ◌≤◌, length};
 ghost use Rattle.arrayvec.specs.ArrayVec.{array_vec_len};
 
 use crate::memory::Layout;
@@ -11,16 +11,18 @@ use register::Register;
 #[derive(Drop)]
 pub struct Subsystem {
     pub(crate) responders: ArrayVec<Responder, 8>,
+    // how many ports there are; they stand in memory that is lent to each call
     pub(crate) port_count: usize,
     pub(crate) status: SubsystemStatus,
     ghost at_most_8_ports: { port_count ≤ 8 },
 }
 
 impl Subsystem {
-    // Where the rows of its Responders stand.
+    // Answers where the rows of its Responders stand.
     pub(crate) fn layout<R: Register>(&self, register: &R) -> Layout
         ensures for_the_responders { result.responders ≡ array_vec_len self.now.responders }
         ensures for_the_controllers { result.controllers ≡ length (R.Register.meaning register.now).controllers }
+        ensures for_both { result.responders * result.controllers ≡ array_vec_len self.now.responders * length (R.Register.meaning register.now).controllers }
     {
         Layout::of(register, self.responders.len())
     }

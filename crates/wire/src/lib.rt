@@ -19,4 +19,5 @@ pub use message::{Command, Head, Lengths, Request};
 pub use refused::Refused;
 pub use reply::{Reply, read_reply};
 pub use round_trip::{head_round_trip, request_round_trip};
+pub use space::check_space;
 pub use tunnel::Tunnel;

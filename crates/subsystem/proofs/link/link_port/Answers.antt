@@ -1,18 +1,24 @@
-use Rattle.std.proofs.Common.{Err, refl, sym, ap, rules}
+use Rattle.std.proofs.Common.{Err, sym, ap, ◌∙◌}
 use Rattle.model.specs.ServiceRefusals.{unknown_identifier}
+use Rattle.subsystem.specs.Faults.{in_numbers, fault_refusal}
+use Rattle.subsystem.proofs.Checks.{climbed, none_there, some_there}
 use Rattle.subsystem.proofs.Linking.{no_port, first_port}
 use Rattle.subsystem.proofs.link.link_port.Goals as goal
 
-pub returns-in_default : goal.returns-in_default
-returns-in_default c =
-    let none = no_port c.args.id c.args.up c.args.ports.now (sym c.in_default.ensures) in
-    record {
-      refused_if_there_is_none = simp none.0 (ap (λ id. Err (unknown_identifier id)) c.from.ensures);
-      links_the_first = sym none.1;
-      a_refusal_changes_nothing = λ _. refl;
-    }
+pub returns-in_err-place-clause-refused_if_there_is_none : goal.returns-in_err-place-clause-refused_if_there_is_none
+returns-in_err-place-clause-refused_if_there_is_none c =
+    let none = none_there _ _ _ (sym c.in_err-place.was ∙ c.ok_or.ensures.value) in
+    simp (no_port c.args.id c.args.up c.args.ports.now (sym c.place_of.ensures ∙ none.0)).0
+    (ap in_numbers (climbed _ _ c.from_residual.ensures.1) ∙ ap (λ f. Err (fault_refusal f)) none.1 ∙ ap (λ id. Err (unknown_identifier id)) c.from.ensures)
 
-pub returns : goal.returns
-returns c =
-    let first = first_port c.args.id c.args.up c.args.ports.now c.in-Some.place (sym c.in-Some.ensures) in
-    record { refused_if_there_is_none = simp first.0; links_the_first = sym first.1; a_refusal_changes_nothing = search rules }
+pub returns-in_err-place-clause-links_the_first : goal.returns-in_err-place-clause-links_the_first
+returns-in_err-place-clause-links_the_first c =
+    sym (no_port c.args.id c.args.up c.args.ports.now (sym c.place_of.ensures ∙ (none_there _ _ _ (sym c.in_err-place.was ∙ c.ok_or.ensures.value)).0)).1
+
+pub returns-clause-refused_if_there_is_none : goal.returns-clause-refused_if_there_is_none
+returns-clause-refused_if_there_is_none c =
+    simp (first_port c.args.id c.args.up c.args.ports.now c.in_ok-place.place (sym c.place_of.ensures ∙ some_there _ _ _ (sym c.in_ok-place.was ∙ c.ok_or.ensures.value))).0
+
+pub returns-clause-links_the_first : goal.returns-clause-links_the_first
+returns-clause-links_the_first c =
+    sym (first_port c.args.id c.args.up c.args.ports.now c.in_ok-place.place (sym c.place_of.ensures ∙ some_there _ _ _ (sym c.in_ok-place.was ∙ c.ok_or.ensures.value))).1

@@ -1,5 +1,4 @@
-use Rattle.std.proofs.Common.{◌≡◌, ◌*◌, ◌++◌, map, length, Ok, Err, sym, ap, ◌∙◌, arith}
-use Rattle.std.proofs.lemmas.Result.{err_from_is_err_and}
+use Rattle.std.proofs.Common.{◌≡◌, ◌*◌, ◌++◌, map, length, Ok, Err, sym, ap, ◌∙◌, subst, arith}
 use Rattle.std.proofs.lemmas.Bool.{ltb-false}
 use Rattle.health.specs.Rows.{row_of}
 use Rattle.register.specs.Controllers.{controller_of}
@@ -7,10 +6,12 @@ use Rattle.model.specs.ServiceRefusals.{unknown_identifier}
 use Rattle.model.specs.Calls.{accepted, judged, Step}
 use Rattle.model.proofs.Controllers.{lawful_ascends}
 use Rattle.subsystem.specs.Faults.{in_numbers, fault_refusal}
+use Rattle.subsystem.specs.Finds.{FoundOrAbsent}
 use Rattle.subsystem.specs.Responders.{responder_of}
 use Rattle.subsystem.specs.States.{state_from, drive_of, state_of}
-use Rattle.subsystem.proofs.Checks.{test_passed, by_needed}
-use Rattle.subsystem.proofs.Finding.{nth_below, present_at}
+use Rattle.subsystem.proofs.Checks.{by_needed, enough, climbed, none_there, some_there}
+use Rattle.subsystem.proofs.Finding.{present_at}
+use Rattle.std.proofs.lemmas.Option.{slice_get_within}
 use Rattle.subsystem.proofs.Reporting.{report_taken, report_short, report_unknown, report_accepted, report_granted, given_back}
 use Rattle.subsystem.proofs.service.Subsystem.report.Goals as goal
 
@@ -20,43 +21,46 @@ returns-in_err-check_length-clause-is_answered_and_done_as_the_model_says g c =
     let m = g.R.Register.meaning c.args.register.now in
     let rows = c.args.rows.now in
     let f = c.in_err-check_length.field-0.0 in
-    let p = err_from_is_err_and c.from_residual.result c.from_residual.ensures.1 in
-    let same : c.from_residual.result ≡ Err f = p.1 ∙ ap Err p.2 in
     λ rest ports.
     let s = state_of x m (rows ++ rest) ports in
-    ap {B = Step} (λ r. record { answer = judged (in_numbers r); state = s }) same
+    ap {B = Step} (λ r. record { answer = judged (in_numbers r); state = s }) (climbed _ f c.from_residual.ensures.1)
     ∙ report_taken s (length rows) c.args.id c.args.new (Err (fault_refusal f))
     (report_short x m (rows ++ rest) rows ports c.args.id c.args.new (sym c.if-not-is_well_formed.ensures) (fault_refusal f)
-    (by_needed (length rows) _ _ (Err (fault_refusal f)) (c.needed.ensures ∙ (λ i. c.layout-layout.ensures.for_the_responders i * c.layout-layout.ensures.for_the_controllers i)) c.in_err-check_length.ensures))
+    (by_needed (length rows) _ _ (Err (fault_refusal f)) (c.needed.ensures ∙ c.layout-layout.ensures.for_both) c.in_err-check_length.ensures))
 
-pub returns-in_default-clause-is_answered_and_done_as_the_model_says : goal.returns-in_default-clause-is_answered_and_done_as_the_model_says
-returns-in_default-clause-is_answered_and_done_as_the_model_says g c =
+pub returns-in_err-found-clause-is_answered_and_done_as_the_model_says : goal.returns-in_err-found-clause-is_answered_and_done_as_the_model_says
+returns-in_err-found-clause-is_answered_and_done_as_the_model_says g c =
     let x = c.args.self.now in
     let m = g.R.Register.meaning c.args.register.now in
     let rows = c.args.rows.now in
-    let room = test_passed _ _ (by_needed (length rows) _ _ (Ok tt) (c.needed.ensures ∙ (λ i. c.layout-layout.ensures.for_the_responders i * c.layout-layout.ensures.for_the_controllers i)) c.in_ok-check_length.ensures) in
+    let room = enough (length rows) _ _ (c.needed.ensures ∙ c.layout-layout.ensures.for_both) c.in_ok-check_length.ensures in
+    let none = none_there _ _ _ (sym c.in_err-found.was ∙ c.ok_or.ensures.value) in
+    let absent = subst (FoundOrAbsent c.args.id m.controllers) none.0 c.find_controller.ensures in
     λ rest ports.
-    report_taken (state_of x m (rows ++ rest) ports) (length rows) c.args.id c.args.new (Err (unknown_identifier c.args.id))
-    (report_unknown x m (rows ++ rest) rows ports c.args.id c.args.new (sym c.if-not-is_well_formed.ensures) room c.in_default.ensures)
+    let s = state_of x m (rows ++ rest) ports in
+    ap {B = Step} (λ r. record { answer = judged (in_numbers r); state = s }) (climbed _ _ c.from_residual-in_err-found.ensures.1 ∙ ap Err none.1)
+    ∙ report_taken s (length rows) c.args.id c.args.new (Err (unknown_identifier c.args.id))
+    (report_unknown x m (rows ++ rest) rows ports c.args.id c.args.new (sym c.if-not-is_well_formed.ensures) room absent)
 
 pub mark_responders-requires-clause-a_place_of_a_controller : goal.mark_responders-requires-clause-a_place_of_a_controller
 mark_responders-requires-clause-a_place_of_a_controller g c =
     let cs = (g.R.Register.meaning c.args.register.now).controllers in
-    let found = c.in-Some.ensures in
+    let found = subst (FoundOrAbsent c.args.id cs) (some_there _ _ _ (sym c.in_ok-found.was ∙ c.ok_or.ensures.value)) c.find_controller.ensures in
     let rows = length c.args.rows.now in
-    let room = ltb-false _ _ (test_passed _ _ (by_needed rows _ _ (Ok tt) (c.needed.ensures ∙ (λ i. c.layout-layout.ensures.for_the_responders i * c.layout-layout.ensures.for_the_controllers i)) c.in_ok-check_length.ensures)) in
-    omega (arith, nth_below cs c.in-Some.found.place _ found.stands_there, c.layout-layout.ensures.for_the_controllers)
+    let room = ltb-false _ _ (enough rows _ _ (c.needed.ensures ∙ c.layout-layout.ensures.for_both) c.in_ok-check_length.ensures) in
+    omega (arith, slice_get_within cs c.in_ok-found.found.place _ found.stands_there, c.layout-layout.ensures.for_the_controllers)
 
 pub returns-clause-is_answered_and_done_as_the_model_says : goal.returns-clause-is_answered_and_done_as_the_model_says
 returns-clause-is_answered_and_done_as_the_model_says g c =
     let x = c.args.self.now in
     let m = g.R.Register.meaning c.args.register.now in
+    let cs = m.controllers in
     let rows = c.args.rows.now in
-    let found = c.in-Some.ensures in
-    let place = c.in-Some.found.place in
-    let controller = controller_of c.in-Some.found.controller in
+    let found = subst (FoundOrAbsent c.args.id cs) (some_there _ _ _ (sym c.in_ok-found.was ∙ c.ok_or.ensures.value)) c.find_controller.ensures in
+    let place = c.in_ok-found.found.place in
+    let controller = controller_of c.in_ok-found.found.controller in
     let part = c.mark_responders.new.responders in
-    let b = test_passed _ _ (by_needed (length rows) _ _ (Ok tt) (c.needed.ensures ∙ (λ i. c.layout-layout.ensures.for_the_responders i * c.layout-layout.ensures.for_the_controllers i)) c.in_ok-check_length.ensures) in
+    let b = enough (length rows) _ _ (c.needed.ensures ∙ c.layout-layout.ensures.for_both) c.in_ok-check_length.ensures in
     let marks = c.mark_responders.ensures in
     λ rest ports.
     ap {B = Step} (λ part. record { answer = accepted; state = state_from (drive_of x (g.R.Register.meaning c.renew.new.register) ports) (map responder_of part) (map row_of (c.mark_responders.new.rows ++ rest)) })

@@ -1,8 +1,5 @@
 use borrow.Rule.Slice.PartMut.{put_mid}
-use Rattle.std.specs.List.{refill}
-use Rattle.std.proofs.lemmas.List.{length-set}
 use Rattle.std.proofs.Common.{◌≡◌, ℕ, ◌-◌, ◌*◌, ◌<◌, ◌++◌, map, length, get_or, set, subst, replicate, Ok, Err, sym, ap, ◌∙◌, arith}
-use Rattle.std.proofs.lemmas.Result.{err_from_is_err_and}
 use Rattle.std.proofs.lemmas.Bool.{ltb-false}
 use Rattle.health.specs.Rows.{row_of, clear_row}
 use Rattle.model.specs.ServiceRefusals.{no_such_responder}
@@ -12,10 +9,9 @@ use Rattle.subsystem.specs.Faults.{in_numbers, fault_refusal}
 use Rattle.subsystem.specs.Responders.{responder_of}
 use Rattle.subsystem.specs.declared.responder.Responder.{Responder}
 use Rattle.subsystem.specs.States.{with_its_rows, state_from, drive_of, state_of}
-use Rattle.subsystem.proofs.Checks.{test_passed, by_needed}
-use Rattle.subsystem.proofs.OneResponder.{same_change, responder_there, responder_exists, responder_absent, responder_replaced, length_lent, own_rows_length}
+use Rattle.subsystem.proofs.Checks.{passed, by_needed, climbed}
+use Rattle.subsystem.proofs.OneResponder.{one_given_back, same_change, responder_there, responder_exists, responder_absent, responder_replaced, length_lent, own_rows_length}
 use Rattle.subsystem.proofs.Resetting.{reset_taken, reset_absent, reset_tested, is_reset}
-use Rattle.subsystem.proofs.Reporting.{given_back}
 use Rattle.subsystem.proofs.RowGroups.{own_rows_lent}
 use Rattle.subsystem.proofs.service.Subsystem.reset.Goals as goal
 
@@ -35,15 +31,13 @@ returns-in_err-check_length-clause-is_answered_and_done_as_the_model_says g c =
     let m = g.R.Register.meaning c.args.register.now in
     let rows = c.args.rows.now in
     let f = c.in_err-check_length.field-0.0 in
-    let p = err_from_is_err_and c.from_residual.result c.from_residual.ensures.1 in
-    let same : c.from_residual.result ≡ Err f = p.1 ∙ ap Err p.2 in
     λ rest ports.
     let s = state_of x m (rows ++ rest) ports in
-    ap {B = Step} (λ r. record { answer = judged (in_numbers r); state = s }) same
+    ap {B = Step} (λ r. record { answer = judged (in_numbers r); state = s }) (climbed _ f c.from_residual.ensures.1)
     ∙ reset_taken s c.args.responder (length rows) (Err (fault_refusal f))
     (let y = responder_exists x m (rows ++ rest) ports c.args.responder (omega (arith, c.from-r.ensures)) in
     reset_tested x m (rows ++ rest) ports c.args.responder (length rows) y.0 y.1 (Err (fault_refusal f))
-    (by_needed (length rows) _ _ (Err (fault_refusal f)) (c.needed.ensures ∙ (λ i. c.layout-layout.ensures.for_the_responders i * c.layout-layout.ensures.for_the_controllers i)) c.in_err-check_length.ensures))
+    (by_needed (length rows) _ _ (Err (fault_refusal f)) (c.needed.ensures ∙ c.layout-layout.ensures.for_both) c.in_err-check_length.ensures))
 
 pub returns-clause-is_answered_and_done_as_the_model_says : goal.returns-clause-is_answered_and_done_as_the_model_says
 returns-clause-is_answered_and_done_as_the_model_says g c =
@@ -59,14 +53,12 @@ returns-clause-is_answered_and_done_as_the_model_says g c =
     let kind = (get_or items r old).kind in
     let cleared_flags : Responder → Responder = λ y. record { kind = y.kind; composite = c.none.result } in
     let new = cleared_flags (get_or items r old) in
-    let lent : c.deref_mut.result.now ≡ items = c.deref_mut.ensures.value in
-    let back : refill (length items) items (set c.deref_mut.result.now r (cleared_flags (get_or c.deref_mut.result.now r old))) ≡ set items r new =
-    (λ i. refill (length items) items (set (lent i) r (cleared_flags (get_or (lent i) r old)))) ∙ given_back items (set items r new) (length-set items r new) in
+    let back = one_given_back cleared_flags items c.deref_mut.result.now r old c.deref_mut.ensures.value in
     let in_use = subst (λ (v : ℕ). r < v) c.len.ensures.value c.if-r-len.false in
     let en : n ≡ length m.controllers = omega (arith, c.rows_of.ensures.begins, c.rows_of.ensures.ends, c.layout-layout.ensures.for_the_controllers) in
     let ek : k ≡ r * length m.controllers = c.rows_of.ensures.begins ∙ ap (λ v. r * v) c.layout-layout.ensures.for_the_controllers in
-    let tested = by_needed (length rows) _ _ (Ok tt) (c.needed.ensures ∙ (λ i. c.layout-layout.ensures.for_the_responders i * c.layout-layout.ensures.for_the_controllers i)) c.in_ok-check_length.ensures in
-    let room = ltb-false _ _ (test_passed _ _ tested) in
+    let tested = by_needed (length rows) _ _ (Ok tt) (c.needed.ensures ∙ c.layout-layout.ensures.for_both) c.in_ok-check_length.ensures in
+    let room = ltb-false _ _ (passed _ _ _ tt tested).0 in
     let within = own_rows_lent r (length x.responders.items) (length m.controllers) k (length rows) in_use ek room in
     let long : length part ≡ length m.controllers = length_lent k (length m.controllers) n rows part en within c.clear_rows.auto.rows in
     let cleared = c.clear_rows.ensures ∙ ap (λ v. replicate v clear_row) (sym c.clear_rows.auto.rows ∙ long) in

@@ -1,7 +1,6 @@
 use Rattle.std.proofs.Common.{◌≡◌, ℕ, ◌-◌, ◌*◌, ◌<◌, ◌++◌, map, length, get_or, drop, sym, refl, ap, ◌∙◌, subst, arith, List, set}
 use borrow.Rule.Slice.PartMut.{mid_of, put_mid}
-use Rattle.std.specs.List.{refill}
-use Rattle.std.proofs.lemmas.List.{length-drop, length-set, get_or_default}
+use Rattle.std.proofs.lemmas.List.{length-drop, get_or_default}
 use Rattle.health.specs.Rows.{row_of}
 use Rattle.polls.specs.Shown.{status_of}
 use Rattle.model.specs.State.{with_responders}
@@ -11,9 +10,8 @@ use Rattle.subsystem.specs.Responders.{responder_of}
 use Rattle.subsystem.specs.declared.responder.Responder.{Responder}
 use Rattle.subsystem.specs.States.{with_its_rows, state_from, drive_of, state_of}
 use Rattle.subsystem.specs.Replies.{ReplyIs, drive_shown, responder_with}
-use Rattle.subsystem.proofs.Reporting.{given_back}
 use Rattle.subsystem.proofs.RowGroups.{own_rows_lent}
-use Rattle.subsystem.proofs.OneResponder.{responder_there, responder_replaced, length_lent}
+use Rattle.subsystem.proofs.OneResponder.{one_given_back, responder_there, responder_replaced, length_lent}
 use Rattle.subsystem.proofs.Responding.{same_served, data_fits, responds, ports_shown, own_rows_are}
 use Rattle.subsystem.proofs.service.Subsystem.respond.Goals as goal
 
@@ -22,10 +20,10 @@ write_head_before-requires g c =
     let k = g.C.Carrier.meaning.head_length in
     let before = c.args.reply.now in
     let middle = c.answer_behind_head-answered.new.reply in
-    let head = c.lengths-head.result.head in
+    let head = c.HEAD.result in
     let is = c.answer_behind_head-answered.ensures 0 in
     let kept = c.answer_behind_head-answered.auto.reply in
-    let same : head ≡ k = ap (λ v. v.head) c.lengths-head.ensures in
+    let same : head ≡ k = c.HEAD.ensures ∙ g.met.C.Carrier.head_is_meant in
     let space = c.requires.space_for_the_reply in
     let a = length-drop head before in
     let b = length-drop head middle in
@@ -47,7 +45,6 @@ returns g c = λ rest more x there.
     let old = get_or self.responders.items r c.index-deref-responder.result in
     let answered = c.answer_behind_head-answered.result in
     let part = c.answer_behind_head-answered.new.own in
-    let with_flags : Responder → Responder = λ y. record { kind = y.kind; composite = answered.composite } in
     let items = self.responders.items in
     let stands : r < length items = c.requires.a_responder_in_use in
     let kind = old.kind in
@@ -65,14 +62,13 @@ returns g c = λ rest more x there.
     same_served d s.drive refl refl (ports_shown self.port_count ports more c.requires.ports_in_use) (responder_with kind old.composite.bits lent) c.args.asked
     ∙ ap (λ y. served s.drive y c.args.asked) is_x in
     let k = g.C.Carrier.meaning in
-    let head : c.lengths-head.result.head ≡ k.head_length = ap (λ l. l.head) c.lengths-head.ensures in
+    let head : c.HEAD.result ≡ k.head_length = c.HEAD.ensures ∙ g.met.C.Carrier.head_is_meant in
     let answered_so = subst (λ (l : List Responder). ReplyIs (served d (responder_with kind (get_or l r c.index-deref-responder.result).composite.bits lent) c.args.asked) kind answered (map row_of part)
-    (drop c.lengths-head.result.head c.args.reply.now) (drop c.lengths-head.result.head c.answer_behind_head-answered.new.reply)) c.deref.ensures.0 (c.answer_behind_head-answered.ensures kind) in
+    (drop c.HEAD.result c.args.reply.now) (drop c.HEAD.result c.answer_behind_head-answered.new.reply)) c.deref.ensures.0 (c.answer_behind_head-answered.ensures kind) in
     let is = subst (λ (h : ℕ). ReplyIs v kind answered (map row_of part) (drop h c.args.reply.now) (drop h c.answer_behind_head-answered.new.reply)) head answered_so in
-    let given = c.deref_mut.ensures.value in
+    let with_flags : Responder → Responder = λ y. record { kind = y.kind; composite = answered.composite } in
     let changed = with_flags (get_or items r c.index-deref_mut-responder.result) in
-    let back : refill (length items) items (set c.deref_mut.result.now r (with_flags (get_or c.deref_mut.result.now r c.index-deref_mut-responder.result))) ≡ set items r changed =
-    (λ i. refill (length items) items (set (given i) r (with_flags (get_or (given i) r c.index-deref_mut-responder.result)))) ∙ given_back items (set items r changed) (length-set items r changed) in
+    let back = one_given_back with_flags items c.deref_mut.result.now r c.index-deref_mut-responder.result c.deref_mut.ensures.value in
     let long = length_lent first n count rows part en within c.answer_behind_head-answered.auto.own in
     responds k s r x c.args.asked v answered kind (map row_of part) _ c.args.reply.now c.answer_behind_head-answered.new.reply c.write_head_before.new.reply _ same is
     c.write_head_before.ensures.answers_the_length c.write_head_before.ensures.writes_the_head
