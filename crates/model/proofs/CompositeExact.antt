@@ -1,8 +1,9 @@
 -- A composite flag is set exactly if some field rose for the Responder since it last cleared the flag.
-use Rattle.std.proofs.Common.{◌≡◌, ℕ, ◌^◌, ◌<◌, Bool, true, false, cond, ◌&&◌, eqb, ◌↔◌, List, [], ◌∷◌, ◌++◌, Some, None, Ok, Err, Option, Result, sym, refl, ap, ◌∙◌, subst, ⊎_elim, arith}
+use Rattle.std.proofs.Common.{◌≡◌, ℕ, ◌^◌, ◌<◌, Bool, true, false, cond, ◌&&◌, eqb, ◌↔◌, List, [], ◌∷◌, ◌++◌, Some, None, Ok, Err, Option, Result, sym, refl, ap, ◌∙◌, subst, ⊎_elim}
 use lib.Bits.{bit_or}
 use Rattle.std.specs.List.{slice_get}
-use Rattle.std.proofs.lemmas.Bool.{both_ways, not-true, not_from_false, eqb-true, eq-eqb, cond-true, cases_Bool, and_parts, and_from, and_right, or_cases, or_left, or_right}
+use Rattle.std.specs.Result.{is_err}
+use Rattle.std.proofs.lemmas.Bool.{true≢false, both_ways, not-true, not_from_false, eqb-true, eq-eqb, cond-true, cases_Bool, and_parts, and_from, and_right, or_cases, or_left, or_right}
 use Rattle.health.specs.Words.{bit, without}
 use Rattle.health.specs.Values.{HealthValues}
 use Rattle.health.specs.Rows.{RowValues}
@@ -183,7 +184,7 @@ module _ (s : State) (t : List Event) (now : State) (ι : Invariant s t now) (κ
       → AllExact s (t ++ (record { call = reset n rows; answer = judged o } ∷ [])) (unless_refused o now (with_responders now (at_place now.responders n reset_responder)))
   unfolding AllExact Exact
   exact_reset n rows x h (Err f) q = exact_refused (reset n rows) f
-  exact_reset n rows None h (Ok done) q = let z : ◌≡◌ {A = ℕ} 0 1 = cc in absurd (omega arith)
+  exact_reset n rows None h (Ok done) q = absurd (true≢false (ap is_err q))
   exact_reset n rows (Some x) h (Ok done) q =
       let e : Event = record { call = reset n rows; answer = accepted } in
       exact_at n e x reset_responder h refl
