@@ -3,6 +3,7 @@ use Rattle.std.proofs.Common.{◌≡◌, ℕ, ◌^◌, ◌<◌, Bool, true, fals
 use lib.Bits.{bit_or}
 use Rattle.std.specs.List.{slice_get}
 use Rattle.std.specs.Result.{is_err}
+use Rattle.std.proofs.Math.Bool.{and-true}
 use Rattle.std.proofs.lemmas.Bool.{true≢false, both_ways, not-true, not_from_false, eqb-true, eq-eqb, cond-true, cases_Bool, and_parts, and_from, and_right, or_cases, or_left, or_right}
 use Rattle.health.specs.Words.{bit, without}
 use Rattle.health.specs.Values.{HealthValues}
@@ -27,7 +28,7 @@ use Rattle.model.proofs.Replies.{Way, by_error, by_answer, way, Granted, granted
 use Rattle.model.proofs.RowInvariant.{RowInvariant}
 use Rattle.model.proofs.Events.{AsksNothing, clears_nothing, link_asks_nothing, status_asks_nothing, reporting, reporting_asks_nothing, refusing, refusing_asks_nothing, refusing_no_report}
 use Rattle.model.proofs.Invariant.{Opening, Invariant, invariant_opened, invariant_next, along_history, invariant_after}
-use Rattle.model.proofs.CompositeClearing.{keeps, and_true, composite_bit, clears_own, error_clears_nothing, clears_is, is_clearing}
+use Rattle.model.proofs.CompositeClearing.{keeps, composite_bit, clears_own, error_clears_nothing, clears_is, is_clearing}
 use Rattle.model.proofs.Standing.{since_now, since_on, since_was, since_none}
 
 -- after the events t, a Responder's composite flags are those that rose
@@ -130,7 +131,7 @@ module _ (d : Drive) (n : ℕ) (k : CarrierMeaning) (rows ports : ℕ) (bytes : 
       let is : bit v.responder.composite f ≡ (bit g.who.composite f && keeps f a) =
       ap (λ (u : Served). bit u.responder.composite f) i ∙ composite_bit f d g.who a in
       ⊎_elim
-      (λ h. composite_same _ (is ∙ ap (λ (u : Bool). bit g.who.composite f && u) h ∙ sym (and_true (bit g.who.composite f)))
+      (λ h. composite_same _ (is ∙ ap (λ (u : Bool). bit g.who.composite f && u) h ∙ and-true (bit g.who.composite f))
       (λ l. both_ways _ (clears_is d n k rows ports bytes space out y o g f a asks (sym q ∙ i) n l) h))
       (λ h. (
         (λ z. absurd (both_ways _ (and_right (bit g.who.composite f) (keeps f a) h) (sym is ∙ z))),

@@ -3,7 +3,7 @@ use Rattle.std.proofs.Common.{◌≡◌, ℕ, zero, suc, ◌≢◌, ◌⊎◌, L
 use Rattle.std.specs.Option.{option_map}
 use Rattle.std.specs.List.{slice_get}
 use Rattle.std.proofs.lemmas.Bool.{cases_eq}
-use Rattle.std.proofs.lemmas.Option.{none-some}
+use Rattle.std.proofs.lemmas.Option.{none-some, same_Some}
 use Rattle.model.specs.State.{Responder}
 use Rattle.model.specs.Calls.{at_place}
 
@@ -29,11 +29,11 @@ length_changed f (x ∷ xs) (suc n) = ap suc (length_changed f xs n)
 -- a Responder after each is changed, and the one after it is changed alone
 pub changed_each : {A B : Type 0} (f : A → B) (xs : List A) (r : ℕ) (y : B) → slice_get (map f xs) r ≡ Some y → (x : A) × (slice_get xs r ≡ Some x) × (f x ≡ y)
 changed_each f [] r y h = absurd (none-some y h)
-changed_each f (x ∷ xs) zero y h = (x, refl, cc)
+changed_each f (x ∷ xs) zero y h = (x, refl, same_Some (f x) y h)
 changed_each f (x ∷ xs) (suc r) y h = changed_each f xs r y h
 
 pub changed_alone : (xs : List Responder) (n : ℕ) (f : Responder → Responder) (x y : Responder) → slice_get xs n ≡ Some x → slice_get (at_place xs n f) n ≡ Some y → f x ≡ y
-changed_alone xs n f x y h k = let p : Some (f x) ≡ Some y = sym (nth_changed f xs n ∙ ap (option_map f) h) ∙ k in cc
+changed_alone xs n f x y h k = same_Some (f x) y (sym (nth_changed f xs n ∙ ap (option_map f) h) ∙ k)
 
 -- any Responder after one is changed
 pub changed_one : (xs : List Responder) (n : ℕ) (f : Responder → Responder) (x : Responder) → slice_get xs n ≡ Some x → (r : ℕ) (y : Responder)
