@@ -1,5 +1,6 @@
 -- Which requests clear a composite flag.
 use Rattle.std.proofs.Common.{◌≡◌, ℕ, Bool, true, false, not, ◌&&◌, List, Ok, Option, sym, refl, ap, ◌∙◌}
+use Rattle.std.proofs.Math.Bool.{and-true}
 use Rattle.std.proofs.lemmas.Bool.{true≢false, not-false, not_from_true, and_right, cond_both}
 use Rattle.health.specs.Words.{bit}
 use Rattle.wire.specs.Meaning.{CarrierMeaning}
@@ -18,18 +19,14 @@ keeps f (controller_poll p) = true
 keeps f (configuration_set flags) = not (bit flags f)
 keeps f configuration_get = true
 
-pub and_true : (b : Bool) → b ≡ (b && true)
-and_true true = refl
-and_true false = refl
-
 pub composite_bit : (f : ℕ) (d : Drive) (x : Responder) (a : Asked) → bit (answered d x a).responder.composite f ≡ (bit x.composite f && keeps f a)
 composite_bit f d x (subsystem_poll true) = bit_zero f ∙ sym (and_right (bit x.composite f) false refl)
-composite_bit f d x (subsystem_poll false) = and_true (bit x.composite f)
+composite_bit f d x (subsystem_poll false) = sym (and-true (bit x.composite f))
 composite_bit f d x (controller_poll p) =
     cond_both p.clear_changed_flags _ _ (λ (v : Responder). bit v.composite f ≡ (bit x.composite f && true))
-    (λ _. and_true (bit x.composite f)) (λ _. and_true (bit x.composite f))
+    (λ _. sym (and-true (bit x.composite f))) (λ _. sym (and-true (bit x.composite f)))
 composite_bit f d x (configuration_set flags) = bit-without x.composite flags f
-composite_bit f d x configuration_get = and_true (bit x.composite f)
+composite_bit f d x configuration_get = sym (and-true (bit x.composite f))
 
 module _ (d : Drive) (n : ℕ) (k : CarrierMeaning) (rows ports : ℕ) (bytes : List ℕ) (space : ℕ) (out : List ℕ) (y : Responder) (o : Option Responder) (g : Granted d o k bytes out y) (f : ℕ) where
   abbrev e : Event

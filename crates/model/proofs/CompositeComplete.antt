@@ -2,8 +2,10 @@
 use Rattle.std.proofs.Common.{◌≡◌, ℕ, ◌+◌, ◌*◌, ◌^◌, ◌<◌, ◌≤◌, Bool, true, false, cond, ◌||◌, eqb, List, [], ◌∷◌, ◌++◌, map, length, Some, None, Ok, Err, Option, Result, sym, refl, ap, ◌∙◌, subst, inl, inr, ⊎_elim, arith}
 use lib.Bits.{bit_or}
 use Rattle.std.specs.List.{AllByRecursion as All, slice_get}
+use Rattle.std.specs.Result.{is_err}
 use Rattle.std.proofs.lemmas.List.{length-map}
-use Rattle.std.proofs.lemmas.Bool.{both_ways, not_from_false, cond_both, cond-true, cases_Bool, cases_lt, and_from, or_cases, or_left, or_right}
+use Rattle.std.proofs.lemmas.Option.{slice_get_within, slice_get_cases}
+use Rattle.std.proofs.lemmas.Bool.{true≢false, both_ways, not_from_false, cond_both, cond-true, cases_Bool, cases_lt, and_from, or_cases, or_left, or_right}
 use Rattle.health.specs.Words.{bit, without}
 use Rattle.health.specs.Status.{events_in}
 use Rattle.health.specs.Rows.{RowValues, clear_row, gaining}
@@ -22,7 +24,7 @@ use Rattle.model.specs.Requests.{Served, with_rows, qualifies, chosen, cleared, 
 use Rattle.model.specs.Calls.{Call, report, set_link, set_status, request, reset, responder_at, count_of_responders, request_outcome, reset_answer, reset_responder, at_place, judged, unless_refused, outcome_answer, outcome_state, next, after}
 use Rattle.model.specs.Histories.{Event, event, events, NoneOf, Enrolled, Succeeds, entry_at, entry_count, id_in, StandsChanged, ClearsComposite, by_reset, Page, LastIs, IsEnd, Walks, last_page, next_page, other_event, HasComposite, CompositeSet}
 use Rattle.model.proofs.Bits.{bit-bit_or, bit_zero, bit-without}
-use Rattle.model.proofs.Responders.{nth_within, nth_found, length_changed, changed_each, changed_alone, changed_one}
+use Rattle.model.proofs.Responders.{length_changed, changed_each, changed_alone, changed_one}
 use Rattle.model.proofs.Controllers.{Ascends}
 use Rattle.model.proofs.Entries.{bytes_of, Fits, id_read, entry_all}
 use Rattle.model.proofs.ParallelRows.{Parallel, parallel_map, parallel_both, parallel_report, parallel_cleared_too, parallel_find, union_has}
@@ -144,7 +146,7 @@ module _ (s : State) (r f n : ℕ) where
       → (ClearsComposite r f (record { call = reset i rows; answer = judged o }) → ⊥)
       → Covered s r f n now → Covered s r f n (unless_refused o now (with_responders now (at_place now.responders i reset_responder)))
   covered_reset now i rows x e (Err a) q h c = c
-  covered_reset now i rows None e (Ok done) q h c = let z : ◌≡◌ {A = ℕ} 0 1 = cc in absurd (omega arith)
+  covered_reset now i rows None e (Ok done) q h c = absurd (true≢false (ap is_err q))
   covered_reset now i rows (Some x) e (Ok done) q h c = covered_at now i x reset_responder e c (λ p. absurd (h (by_reset p)))
 
   covered_report : (now : State) (id : ℕ) (p : Report) (o : Result (Unit {0}) Refusal) → Covered s r f n now → Covered s r f n (unless_refused o now (reported id p now))
@@ -283,7 +285,7 @@ module _ (s : State) (asc : Ascends 0 s.drive.register.controllers) (r f : ℕ) 
       by_first (first p) (λ m covered' q. walked cs m (t ++ (event now c ∷ [])) (next now c) (invariant_next s asc t now ι c) covered' h.1 q)
     where
       there : Page r n (event now c) → r < count_of_responders now
-      there p = let u = success now c r (controller_poll p.poll) p.nmresp p.payload p.succeeds in nth_within now.responders r u.who u.there
+      there p = let u = success now c r (controller_poll p.poll) p.nmresp p.payload p.succeeds in slice_get_within now.responders r u.who u.there
 
       by_first : First s r n (event now c) (events (next now c) cs)
           → ((m : ℕ) → Covered s r f m (next now c) → Walks s r m (events (next now c) cs) → Done (after (next now c) cs)) → Done (after (next now c) cs)
@@ -312,7 +314,8 @@ composite_complete s o h k r f l z p id st =
     let end = after s (h ++ k) in
     let same = after_append h k s in
     let ι' = invariant_after s o (h ++ k) in
-    let own = nth_found end.responders r (let d = done.1 in let q = ap count_of_responders same in omega arith) in
+    let own : (y : Responder) × (responder_at end r ≡ Some y) =
+    ⊎_elim (λ u. (u.0, u.2)) (λ u. let d = done.1 in let q = ap count_of_responders same in absurd (omega (arith, u.0))) (slice_get_cases end.responders r).1 in
     let y = own.0 in
     let covered : Parallel (RowCovered f (2 ^ 16) y.composite) s.drive.register.controllers end.drive.register.controllers y.rows =
     subst (λ (v : State). Covered s r f (2 ^ 16) v) (sym same) done.0 y own.1 in

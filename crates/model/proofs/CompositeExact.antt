@@ -1,8 +1,10 @@
 -- A composite flag is set exactly if some field rose for the Responder since it last cleared the flag.
-use Rattle.std.proofs.Common.{◌≡◌, ℕ, ◌^◌, ◌<◌, Bool, true, false, cond, ◌&&◌, eqb, ◌↔◌, List, [], ◌∷◌, ◌++◌, Some, None, Ok, Err, Option, Result, sym, refl, ap, ◌∙◌, subst, ⊎_elim, arith}
+use Rattle.std.proofs.Common.{◌≡◌, ℕ, ◌^◌, ◌<◌, Bool, true, false, cond, ◌&&◌, eqb, ◌↔◌, List, [], ◌∷◌, ◌++◌, Some, None, Ok, Err, Option, Result, sym, refl, ap, ◌∙◌, subst, ⊎_elim}
 use lib.Bits.{bit_or}
 use Rattle.std.specs.List.{slice_get}
-use Rattle.std.proofs.lemmas.Bool.{both_ways, not-true, not_from_false, eqb-true, eq-eqb, cond-true, cases_Bool, and_parts, and_from, and_right, or_cases, or_left, or_right}
+use Rattle.std.specs.Result.{is_err}
+use Rattle.std.proofs.Math.Bool.{and-true}
+use Rattle.std.proofs.lemmas.Bool.{true≢false, both_ways, not-true, not_from_false, eqb-true, eq-eqb, cond-true, cases_Bool, and_parts, and_from, and_right, or_cases, or_left, or_right}
 use Rattle.health.specs.Words.{bit, without}
 use Rattle.health.specs.Values.{HealthValues}
 use Rattle.health.specs.Rows.{RowValues}
@@ -26,7 +28,7 @@ use Rattle.model.proofs.Replies.{Way, by_error, by_answer, way, Granted, granted
 use Rattle.model.proofs.RowInvariant.{RowInvariant}
 use Rattle.model.proofs.Events.{AsksNothing, clears_nothing, link_asks_nothing, status_asks_nothing, reporting, reporting_asks_nothing, refusing, refusing_asks_nothing, refusing_no_report}
 use Rattle.model.proofs.Invariant.{Opening, Invariant, invariant_opened, invariant_next, along_history, invariant_after}
-use Rattle.model.proofs.CompositeClearing.{keeps, and_true, composite_bit, clears_own, error_clears_nothing, clears_is, is_clearing}
+use Rattle.model.proofs.CompositeClearing.{keeps, composite_bit, clears_own, error_clears_nothing, clears_is, is_clearing}
 use Rattle.model.proofs.Standing.{since_now, since_on, since_was, since_none}
 
 -- after the events t, a Responder's composite flags are those that rose
@@ -129,7 +131,7 @@ module _ (d : Drive) (n : ℕ) (k : CarrierMeaning) (rows ports : ℕ) (bytes : 
       let is : bit v.responder.composite f ≡ (bit g.who.composite f && keeps f a) =
       ap (λ (u : Served). bit u.responder.composite f) i ∙ composite_bit f d g.who a in
       ⊎_elim
-      (λ h. composite_same _ (is ∙ ap (λ (u : Bool). bit g.who.composite f && u) h ∙ sym (and_true (bit g.who.composite f)))
+      (λ h. composite_same _ (is ∙ ap (λ (u : Bool). bit g.who.composite f && u) h ∙ and-true (bit g.who.composite f))
       (λ l. both_ways _ (clears_is d n k rows ports bytes space out y o g f a asks (sym q ∙ i) n l) h))
       (λ h. (
         (λ z. absurd (both_ways _ (and_right (bit g.who.composite f) (keeps f a) h) (sym is ∙ z))),
@@ -183,7 +185,7 @@ module _ (s : State) (t : List Event) (now : State) (ι : Invariant s t now) (κ
       → AllExact s (t ++ (record { call = reset n rows; answer = judged o } ∷ [])) (unless_refused o now (with_responders now (at_place now.responders n reset_responder)))
   unfolding AllExact Exact
   exact_reset n rows x h (Err f) q = exact_refused (reset n rows) f
-  exact_reset n rows None h (Ok done) q = let z : ◌≡◌ {A = ℕ} 0 1 = cc in absurd (omega arith)
+  exact_reset n rows None h (Ok done) q = absurd (true≢false (ap is_err q))
   exact_reset n rows (Some x) h (Ok done) q =
       let e : Event = record { call = reset n rows; answer = accepted } in
       exact_at n e x reset_responder h refl

@@ -1,6 +1,6 @@
 -- The controllers of a lawful register: their IDs ascend, none twice.
-use Rattle.std.proofs.Common.{◌≡◌, ℕ, ◌+◌, ◌^◌, ◌<◌, ◌≤◌, Bool, true, false, ◌&&◌, T, ltb, leb, List, [], ◌∷◌, sym, ap, ◌∙◌, subst, inl, inr, arith, ltb→lt, leb→le}
-use Rattle.register.specs.Controllers.{ControllerValues, sound, lawful_from}
+use Rattle.std.proofs.Common.{◌≡◌, ℕ, ◌+◌, ◌^◌, ◌<◌, ◌≤◌, T, List, [], ◌∷◌, sym, ap, ◌∙◌, subst, inl, inr, arith}
+use Rattle.register.specs.Controllers.{ControllerValues, lawful_from}
 use Rattle.model.specs.Histories.{Enrolled}
 
 -- IDs of 16 bits that ascend from n on
@@ -8,17 +8,9 @@ abbrev pub Ascends : ℕ → List ControllerValues → Type 0
 Ascends n [] = Unit {0}
 Ascends n (c ∷ cs) = (n ≤ c.id) × (c.id < 2 ^ 16) × Ascends (c.id + 1) cs
 
-both : (a b : Bool) → T (a && b) → T a × T b
-both true b t = (tt, t)
-both false b t = absurd t
-
 pub lawful_ascends : (n : ℕ) (cs : List ControllerValues) → T (lawful_from n cs) → Ascends n cs
 lawful_ascends n [] t = tt
-lawful_ascends n (c ∷ cs) t =
-    let above = both (leb n c.id) (sound c && lawful_from (c.id + 1) cs) t in
-    let this = both (sound c) (lawful_from (c.id + 1) cs) above.1 in
-    let id = both (ltb c.id (2 ^ 16)) (leb c.function 2 && ltb c.health.levels (2 ^ 6)) this.0 in
-    (leb→le n c.id above.0, ltb→lt c.id (2 ^ 16) id.0, lawful_ascends (c.id + 1) cs this.1)
+lawful_ascends n (c ∷ cs) t = let i = lawful_ascends (c.id + 1) cs in grind arith
 
 pub enrolled_from : (c : ControllerValues) (n : ℕ) (cs : List ControllerValues) → Ascends n cs → Enrolled c cs → n ≤ c.id
 enrolled_from c n [] a i = absurd i

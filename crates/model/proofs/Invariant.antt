@@ -1,8 +1,9 @@
 -- What holds of every Responder along every history.
-use Rattle.std.proofs.Common.{◌≡◌, ℕ, ◌+◌, ◌*◌, ◌^◌, ◌<◌, Bool, true, eqb, ◌↔◌, List, [], ◌∷◌, ◌++◌, map, length, replicate, Some, None, Ok, Err, Option, Result, sym, refl, ap, ◌∙◌, subst, inl, inr, ⊎_elim, append-nil, arith}
+use Rattle.std.proofs.Common.{◌≡◌, ℕ, ◌+◌, ◌*◌, ◌^◌, ◌<◌, Bool, true, false, eqb, ◌↔◌, List, [], ◌∷◌, ◌++◌, map, length, replicate, Some, None, Ok, Err, Option, Result, sym, refl, ap, ◌∙◌, subst, inl, inr, ⊎_elim, append_assoc, append-nil, arith}
 use lib.Bits.{or_lt}
 use Rattle.std.specs.List.{AllByRecursion as All, slice_get}
-use Rattle.std.proofs.lemmas.Bool.{both_ways, cond_both}
+use Rattle.std.specs.Result.{is_err}
+use Rattle.std.proofs.lemmas.Bool.{true≢false, both_ways, cond_both}
 use Rattle.health.specs.Rows.{RowValues, clear_row}
 use Rattle.health.specs.declared.report.Report.{Report}
 use Rattle.wire.specs.Refusals.{Refusal}
@@ -25,7 +26,7 @@ use Rattle.model.proofs.ParallelRows.{Parallel, none, more, parallel_map, parall
 use Rattle.model.proofs.Replies.{answered, Way, by_error, by_answer, way, Granted, granted, ErrorHead, asking, error_fails, success_same, answer_succeeds}
 use Rattle.model.proofs.RowInvariant.{RowInvariant, row_kept, row_cleared, row_reported}
 use Rattle.model.proofs.Events.{AsksNothing, ends_nothing, reporting, link_asks_nothing, status_asks_nothing, refusing, refusing_asks_nothing, refusing_no_report}
-use Rattle.model.proofs.Standing.{append_one_by_one, since_none}
+use Rattle.model.proofs.Standing.{since_none}
 
 -- the state right after opening: controllers in ascending ID, no composite flag, clear rows
 pub record Opening (s : State) : Type 0 where
@@ -38,6 +39,12 @@ pub record Invariant (s : State) (t : List Event) (now : State) : Type 0 where
   pub rows_hold : (r : ℕ) (y : Responder) → responder_at now r ≡ Some y
       → Parallel (RowInvariant s t r) s.drive.register.controllers now.drive.register.controllers y.rows
   pub composite_fits : (r : ℕ) (y : Responder) → responder_at now r ≡ Some y → y.composite < 2 ^ 16
+
+abbrev pub is_controller_poll : Asked → Bool
+is_controller_poll (subsystem_poll clear) = false
+is_controller_poll (controller_poll p) = true
+is_controller_poll (configuration_set flags) = false
+is_controller_poll configuration_get = false
 
 -- ---- opening
 
@@ -160,12 +167,15 @@ module _ (d : Drive) (n : ℕ) (k : CarrierMeaning) (rows ports : ℕ) (bytes : 
       no_poll_keeps : ((p : ControllerHealthPoll) → controller_poll p ≡ a → p.clear_changed_flags ≡ true → ⊥) → Holds g.who.rows
       no_poll_keeps h = rows_kept (λ id z. let u = ended n id z in h u.0 u.1 u.2)
 
+      others_keep : is_controller_poll a ≡ false → Holds g.who.rows
+      others_keep other = no_poll_keeps (λ p q z. true≢false (ap is_controller_poll q ∙ other))
+
     rows_answered : (a : Asked) → asked_in g.asked.command ≡ Ok a → served d g.who g.asked ≡ answered d g.who a → Holds (answered d g.who a).responder.rows
     rows_answered (subsystem_poll clear) asks is =
         cond_both clear _ _ (λ (v : Responder). Holds v.rows) (λ _. same) (λ _. same)
       where
         same : Holds g.who.rows
-        same = no_poll_keeps (subsystem_poll clear) asks is (λ p q z. let v : ◌≡◌ {A = ℕ} 0 1 = cc in omega arith)
+        same = others_keep (subsystem_poll clear) asks is refl
     rows_answered (controller_poll p) asks is =
         cond_both p.clear_changed_flags _ _ (λ (v : Responder). Holds v.rows) (λ c. cleared_rows c)
         (λ c. no_poll_keeps (controller_poll p) asks is (λ p' q z. both_ways _ c (let same : p' ≡ p = cc in ap (λ (v : ControllerHealthPoll). v.clear_changed_flags) (sym same) ∙ z)))
@@ -192,9 +202,9 @@ module _ (d : Drive) (n : ℕ) (k : CarrierMeaning) (rows ports : ℕ) (bytes : 
             parallel_cleared (qualifies p) (λ id. EndsStanding n id e) (λ x c w φ. φ.same_id) (λ x c w φ h. row_cleared s t e n x c w φ refl h)
             (λ x c w φ h. row_kept s t e n x c w φ refl h) (p.maxrent + 1) 0 asc (λ id _. returned c id) l
     rows_answered (configuration_set flags) asks is =
-        no_poll_keeps (configuration_set flags) asks is (λ p q z. let v : ◌≡◌ {A = ℕ} 0 1 = cc in omega arith)
+        others_keep (configuration_set flags) asks is refl
     rows_answered configuration_get asks is =
-        no_poll_keeps configuration_get asks is (λ p q z. let v : ◌≡◌ {A = ℕ} 0 1 = cc in omega arith)
+        others_keep configuration_get asks is refl
 
     rows_asked : (v : Served) → v ≡ served d g.who g.asked → Way d g.who g.asked v → Holds v.responder.rows
     rows_asked v q (by_error head b i) =
@@ -243,7 +253,7 @@ module _ (s : State) (asc : Ascends 0 s.drive.register.controllers) (t : List Ev
       → reset_answer now.drive (count_of_responders now) x n rows ≡ o
       → Invariant s (t ++ (record { call = reset n rows; answer = judged o } ∷ [])) (unless_refused o now (with_responders now (at_place now.responders n reset_responder)))
   invariant_reset n rows x h (Err f) q = invariant_refused s t now ι (reset n rows) f
-  invariant_reset n rows None h (Ok done) q = let z : ◌≡◌ {A = ℕ} 0 1 = cc in absurd (omega arith)
+  invariant_reset n rows None h (Ok done) q = absurd (true≢false (ap is_err q))
   invariant_reset n rows (Some x) h (Ok done) q =
       invariant_at n _ x reset_responder h refl (λ r id u. ⊎_elim (λ z. z) (λ z. absurd z.succeeds) u)
       (parallel_reset (λ z c w φ. row_cleared s t _ n z c w φ refl (inl refl)) (ι.rows_hold n x h)) (omega arith)
@@ -267,7 +277,7 @@ pub along_history : (P : List Event → State → Type 0) → ((t : List Event) 
     → (h : List Call) (t : List Event) (now : State) → P t now → P (t ++ events now h) (after now h)
 along_history P keeps [] t now p = subst (λ (l : List Event). P l now) (sym (append-nil t)) p
 along_history P keeps (c ∷ cs) t now p =
-    subst (λ (l : List Event). P l (after (next now c) cs)) (sym (append_one_by_one t (event now c) (events (next now c) cs)))
+    subst (λ (l : List Event). P l (after (next now c) cs)) (append_assoc t (event now c ∷ []) (events (next now c) cs))
     (along_history P keeps cs (t ++ (event now c ∷ [])) (next now c) (keeps t now c p))
 
 -- after any history

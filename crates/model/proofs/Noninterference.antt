@@ -3,6 +3,7 @@ use Rattle.std.proofs.Common.{◌≡◌, ℕ, Bool, true, false, cond, ◌≢◌
 use Rattle.std.specs.Option.{option_map}
 use Rattle.std.specs.List.{slice_get}
 use Rattle.std.proofs.lemmas.List.{length-map}
+use Rattle.std.proofs.lemmas.Option.{slice_get-map}
 use Rattle.std.proofs.lemmas.Bool.{eqb-true, eqb-false, true≢false}
 use Rattle.health.specs.declared.report.Report.{Report}
 use Rattle.wire.specs.Refusals.{Refusal}
@@ -12,7 +13,7 @@ use Rattle.model.specs.Drives.{link_answer, linked, with_status}
 use Rattle.model.specs.Requests.{Outcome, refuse, grant}
 use Rattle.model.specs.Calls.{Call, report, set_link, set_status, request, reset, Answer, responder_at, count_of_responders, request_outcome, reset_answer, reset_responder, at_place, judged, unless_refused, outcome_answer, outcome_state, answer, next, answers}
 use Rattle.model.specs.Histories.{events, concerns, without_others, answers_without_others}
-use Rattle.model.proofs.Responders.{nth_map, nth_changed, nth_other, length_changed}
+use Rattle.model.proofs.Responders.{nth_changed, nth_other, length_changed}
 
 -- all that the calls that concern r depend on is the same in two states
 pub record Alike (r : ℕ) (s t : State) : Type 0 where
@@ -36,7 +37,7 @@ module _ (r : ℕ) (s t : State) (a : Alike r s t) where
   reported_alike id p = record {
     drives = λ i. with_register_of (a.drives i) (map (renewed id p) (a.drives i).register.controllers);
     counts = length-map s.responders _ ∙ a.counts ∙ sym (length-map t.responders _);
-    own = nth_map _ s.responders r ∙ (λ i. option_map (marked id p (a.drives i).register.controllers) (a.own i)) ∙ sym (nth_map _ t.responders r);
+    own = slice_get-map _ s.responders r ∙ (λ i. option_map (marked id p (a.drives i).register.controllers) (a.own i)) ∙ sym (slice_get-map _ t.responders r);
   }
 
   driven_alike : (f : Drive → Drive) → Alike r (with_drive s (f s.drive)) (with_drive t (f t.drive))

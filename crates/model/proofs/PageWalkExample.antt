@@ -6,22 +6,20 @@ use Rattle.wire.specs.Refusals.{Refusal}
 use Rattle.wire.specs.Meaning.{CarrierMeaning}
 use Rattle.wire.specs.declared.message.Head.{Head}
 use Rattle.wire.specs.declared.message.Request.{Request}
-use Rattle.commands.specs.Commands.{Asked, subsystem_poll, controller_poll, configuration_set, configuration_get, asked_in}
+use Rattle.commands.specs.Commands.{Asked, controller_poll, asked_in}
 use Rattle.commands.specs.declared.controller_poll.ControllerHealthPoll.{ControllerHealthPoll}
 use Rattle.register.specs.Controllers.{ControllerValues}
 use Rattle.model.specs.Calls.{report, request, Answer, replied, after}
 use Rattle.model.specs.Histories.{Event, event, events, NoneOf, Enrolled, Succeeds, EndsStanding, StandsChanged, ClearsComposite, by_configuration_set, by_subsystem_poll, by_reset, Page, Walks, last_page, next_page, other_event}
 use Rattle.model.specs.ReferenceCases.{fitted, ports}
 use Rattle.model.specs.PageWalkExample.{three_controllers, six_rows, start, earlier, clearing, before_the_walk, walk_calls, since_the_clearing, all_calls, PageWalkIsMet}
+use Rattle.model.proofs.Invariant.{is_controller_poll}
 use Rattle.model.proofs.IndependentPolling.{independent_polling}
 
 -- ---- what clears nothing
 
 abbrev is_health_poll : Result Asked Head → Bool
-is_health_poll (Ok (controller_poll p)) = true
-is_health_poll (Ok (subsystem_poll clear)) = false
-is_health_poll (Ok (configuration_set flags)) = false
-is_health_poll (Ok configuration_get) = false
+is_health_poll (Ok a) = is_controller_poll a
 is_health_poll (Err head) = false
 
 same_request : {a b : Request} → ◌≡◌ {A = Result Request Refusal} (Ok a) (Ok b) → a ≡ b

@@ -1,15 +1,11 @@
 -- Responders by their numbers.
-use Rattle.std.proofs.Common.{◌≡◌, ℕ, zero, suc, ◌<◌, ◌≢◌, ◌⊎◌, List, [], ◌∷◌, map, length, Some, sym, refl, ap, ◌∙◌, subst, inl, inr, ⊎_elim, arith}
+use Rattle.std.proofs.Common.{◌≡◌, ℕ, zero, suc, ◌≢◌, ◌⊎◌, List, [], ◌∷◌, map, length, Some, sym, refl, ap, ◌∙◌, subst, inl, inr, ⊎_elim}
 use Rattle.std.specs.Option.{option_map}
 use Rattle.std.specs.List.{slice_get}
 use Rattle.std.proofs.lemmas.Bool.{cases_eq}
+use Rattle.std.proofs.lemmas.Option.{none-some, same_Some}
 use Rattle.model.specs.State.{Responder}
 use Rattle.model.specs.Calls.{at_place}
-
-pub nth_map : {A B : Type 0} (f : A → B) (xs : List A) (r : ℕ) → slice_get (map f xs) r ≡ option_map f (slice_get xs r)
-nth_map f [] r = refl
-nth_map f (x ∷ xs) zero = refl
-nth_map f (x ∷ xs) (suc r) = nth_map f xs r
 
 -- the Responder that is changed
 pub nth_changed : (f : Responder → Responder) (xs : List Responder) (r : ℕ) → slice_get (at_place xs r f) r ≡ option_map f (slice_get xs r)
@@ -32,12 +28,12 @@ length_changed f (x ∷ xs) (suc n) = ap suc (length_changed f xs n)
 
 -- a Responder after each is changed, and the one after it is changed alone
 pub changed_each : {A B : Type 0} (f : A → B) (xs : List A) (r : ℕ) (y : B) → slice_get (map f xs) r ≡ Some y → (x : A) × (slice_get xs r ≡ Some x) × (f x ≡ y)
-changed_each f [] r y h = let z : ◌≡◌ {A = ℕ} 0 1 = cc in absurd (omega arith)
-changed_each f (x ∷ xs) zero y h = (x, refl, cc)
+changed_each f [] r y h = absurd (none-some y h)
+changed_each f (x ∷ xs) zero y h = (x, refl, same_Some (f x) y h)
 changed_each f (x ∷ xs) (suc r) y h = changed_each f xs r y h
 
 pub changed_alone : (xs : List Responder) (n : ℕ) (f : Responder → Responder) (x y : Responder) → slice_get xs n ≡ Some x → slice_get (at_place xs n f) n ≡ Some y → f x ≡ y
-changed_alone xs n f x y h k = let p : Some (f x) ≡ Some y = sym (nth_changed f xs n ∙ ap (option_map f) h) ∙ k in cc
+changed_alone xs n f x y h k = same_Some (f x) y (sym (nth_changed f xs n ∙ ap (option_map f) h) ∙ k)
 
 -- any Responder after one is changed
 pub changed_one : (xs : List Responder) (n : ℕ) (f : Responder → Responder) (x : Responder) → slice_get xs n ≡ Some x → (r : ℕ) (y : Responder)
@@ -45,14 +41,3 @@ pub changed_one : (xs : List Responder) (n : ℕ) (f : Responder → Responder) 
 changed_one xs n f x h r y k =
     ⊎_elim (λ q. inl (q, changed_alone xs n f x y h (subst (λ (m : ℕ). slice_get (at_place xs n f) m ≡ Some y) (sym q) k)))
     (λ q. inr (q, sym (nth_other f xs n r q) ∙ k)) (cases_eq n r)
-
--- a Responder is there exactly if its number is below their count
-pub nth_within : {A : Type 0} (xs : List A) (r : ℕ) (x : A) → slice_get xs r ≡ Some x → r < length xs
-nth_within [] r x h = let z : ◌≡◌ {A = ℕ} 0 1 = cc in absurd (omega arith)
-nth_within (y ∷ ys) zero x h = omega arith
-nth_within (y ∷ ys) (suc r) x h = let i = nth_within ys r x h in omega arith
-
-pub nth_found : {A : Type 0} (xs : List A) (r : ℕ) → r < length xs → (x : A) × (slice_get xs r ≡ Some x)
-nth_found [] r h = absurd (omega arith)
-nth_found (y ∷ ys) zero h = (y, refl)
-nth_found (y ∷ ys) (suc r) h = nth_found ys r (omega arith)

@@ -35,11 +35,6 @@ none_last : (P : Event → Type 0) (l : List Event) (e : Event) → NoneOf P (l 
 none_last P [] e n = n.0
 none_last P (x ∷ l) e n = none_last P l e n.1
 
--- one event more, and then the others
-pub append_one_by_one : {A : Type 0} (t : List A) (e : A) (l : List A) → t ++ (e ∷ l) ≡ (t ++ (e ∷ [])) ++ l
-append_one_by_one [] e l = refl
-append_one_by_one {A} (x ∷ t) e l = ap {B = List A} (λ v. x ∷ v) (append_one_by_one t e l)
-
 -- `Since`, after one event more
 module _ (C : List Event → Event → Type 0) (E : Event → Type 0) (t : List Event) (e : Event) where
   pub since_now : C t e → Since C E (t ++ (e ∷ []))

@@ -23,6 +23,7 @@ pub fn page_walk_example() -> usize
 }
 
 // The page walk, for the function above.
+#[tactic(auto, using(crate::proofs::PageWalkExample::page_walk_is_met))]
 fn meet_page_walk()
     ensures the_walk_is_met { PageWalkIsMet }
 {}

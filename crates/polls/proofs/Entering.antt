@@ -192,20 +192,19 @@ module _ (p : ControllerHealthPoll) where
 
     -- nothing is left to do
     module _ (place found : ℕ) (rows : List RowValues) (written : List ℕ) (going : Going place found rows written) (none_left : left place found ≡ with_none (drop place ws)) where
-      pub record Ended : Type 0 where
-        pub counts : found ≡ whole.count
-        pub leaves_rows : rows ≡ whole.rows
-        pub writes : written ≡ whole.bytes ++ drop (16 * whole.count) space
-
-      pub ended : Ended
+      pub ended : record {
+        counts_those_returned : found ≡ whole.count;
+        clears_those_returned_and_no_other : rows ≡ whole.rows;
+        writes_their_entries_and_no_other_byte : written ≡ whole.bytes ++ drop (16 * whole.count) space;
+      }
       ended =
           let total = ap (λ o. found + o.count) (sym none_left) ∙ going.counted in
           let count : found ≡ whole.count = omega (arith, total) in
           let front = sym (append-nil (take (16 * found) written)) ∙ ap (λ o. take (16 * found) written ++ o.bytes) (sym none_left) ∙ going.done_bytes in
           record {
-            counts = count;
-            leaves_rows = sym (take-append-drop place rows) ∙ ap (λ l. take place rows ++ l) going.rest_of_rows ∙ ap (λ o. take place rows ++ o.rows) (sym none_left) ∙ going.done_rows;
-            writes =
+            counts_those_returned = count;
+            clears_those_returned_and_no_other = sym (take-append-drop place rows) ∙ ap (λ l. take place rows ++ l) going.rest_of_rows ∙ ap (λ o. take place rows ++ o.rows) (sym none_left) ∙ going.done_rows;
+            writes_their_entries_and_no_other_byte =
                 sym (take-append-drop (16 * found) written) ∙ ap (λ l. l ++ drop (16 * found) written) front ∙ ap (λ l. whole.bytes ++ l) going.rest_of_space
                 ∙ ap (λ k. whole.bytes ++ drop (16 * k) space) count;
           }

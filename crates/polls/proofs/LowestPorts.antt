@@ -1,10 +1,15 @@
 -- The ports of lowest and of second lowest identifier, by the lowest identifier at or above a number.
-use Rattle.std.proofs.Common.{◌≡◌, ℕ, ◌+◌, ◌<◌, ◌≤◌, Bool, true, false, cond, List, [], ◌∷◌, None, Option, reverse, refl, ap, ◌∙◌, ⊎_elim, nat_le, arith}
-use Rattle.std.specs.List.{fold, filter}
-use Rattle.std.proofs.lemmas.List.{reverse-append}
-use Rattle.std.proofs.lemmas.List.Sums.{fold-append}
-use Rattle.std.proofs.lemmas.List.Elements.{filter-append}
+use Rattle.std.proofs.Common.{◌≡◌, ℕ, ◌+◌, ◌<◌, ◌≤◌, Bool, true, false, cond, List, [], ◌∷◌, Some, None, Option, Ordering, Less, Equal, Greater, sym, refl, ap, ◌∙◌, subst, ap₂, ⊎_elim, nat_le, nat_lt, option_map, MatchOption, arith}
+use Rattle.std.specs.List.{FoldsTo, fold, filter, reduce}
+use Rattle.std.specs.Ordering.{nat_cmp, min_by_ordering}
+use Rattle.std.specs.Iterator.{Drains, KeyTurn, PicksMinByKey}
+use Rattle.std.specs.Fn.{CalledAt}
 use Rattle.std.proofs.lemmas.Bool.{cases_lt, le-leb, lt-leb, lt-ltb, le-ltb}
+use Rattle.std.proofs.lemmas.Cmp.{ranked}
+use Rattle.std.proofs.lemmas.Iterator.{YieldsList}
+use Rattle.std.proofs.lemmas.Iterator.Consumers.{reduce_by_from_yields_List}
+use denote.Param.Members.{Mut}
+use denote.Ref.{Bor}
 use Rattle.register.specs.declared.port.Port.{Port}
 use Rattle.model.specs.Drives.{lower, lowest, above, lowest_from}
 
@@ -20,14 +25,80 @@ lowest_from_next n (p ∷ ps) =
     ⊎_elim (λ (h : n < p.id). simp (le-leb (n + 1) p.id (omega arith), lt-ltb n p.id h) (ap (lower p) (lowest_from_next n ps)))
     (λ (h : p.id ≤ n). simp (lt-leb (n + 1) p.id (omega arith), le-ltb n p.id h) (lowest_from_next n ps)) (cases_lt n p.id)
 
--- of those at or above a number, from the last to the first
-pub lowest_from_the_last : (from : ℕ) (ps : List Port)
-    → fold (λ (found : Option Port) (p : Port). lower p found) None (filter (λ (p : Port). nat_le from p.id) (reverse ps)) ≡ lowest_from from ps
-lowest_from_the_last from [] = refl
-lowest_from_the_last from (p ∷ ps) =
-    let f : Option Port → Port → Option Port = λ found q. lower q found in
+-- the lowest of those at or above a number
+pub lowest_of_those : (from : ℕ) (ps : List Port) → lowest (filter (λ (p : Port). nat_le from p.id) ps) ≡ lowest_from from ps
+lowest_of_those from [] = refl
+lowest_of_those from (p ∷ ps) =
     let t : Port → Bool = λ q. nat_le from q.id in
-    let found = lowest_from from ps in
-    ap (λ l. fold f None (filter t l)) (reverse-append (p ∷ []) ps) ∙ ap (fold f None) (filter-append t (reverse ps) (p ∷ []))
-    ∙ fold-append f None (filter t (reverse ps)) (filter t (p ∷ [])) ∙ ap (λ a. fold f a (filter t (p ∷ []))) (lowest_from_the_last from ps)
-    ∙ elim (nat_le from p.id) as (λ b. fold f found (cond b (p ∷ []) []) ≡ cond b (lower p found) found) [ true ↦ refl | false ↦ refl ]
+    let e = lowest_of_those from ps in
+    elim (nat_le from p.id) as (λ b. lowest (cond b (p ∷ filter t ps) (filter t ps)) ≡ cond b (lower p (lowest_from from ps)) (lowest_from from ps)) [ true ↦ ap (lower p) e | false ↦ e ]
+
+-- of two ports the one with the lower identifier, the first of equals
+abbrev lower_port : Port → Port → Port
+lower_port p q = cond (nat_lt q.id p.id) q p
+
+lower_port_first : (p q : Port) (o : Option Port) → lower (lower_port p q) o ≡ lower p (lower q o)
+lower_port_first p q None = elim (nat_lt q.id p.id) as (λ b. Some (cond b q p) ≡ cond b (Some q) (Some p)) [ true ↦ refl | false ↦ refl ]
+lower_port_first p q (Some r) =
+    ⊎_elim
+    (λ (a : q.id < p.id).
+    ⊎_elim
+    (λ (b : r.id < q.id). simp (lt-ltb q.id p.id a, lt-ltb r.id q.id b, lt-ltb r.id p.id (omega arith)) refl)
+    (λ (b : q.id ≤ r.id). simp (lt-ltb q.id p.id a, le-ltb r.id q.id b) refl)
+    (cases_lt r.id q.id))
+    (λ (a : p.id ≤ q.id).
+    ⊎_elim
+    (λ (b : r.id < q.id). simp (le-ltb q.id p.id a, lt-ltb r.id q.id b) refl)
+    (λ (b : q.id ≤ r.id). simp (le-ltb q.id p.id a, le-ltb r.id q.id b, le-ltb r.id p.id (omega arith)) refl)
+    (cases_lt r.id q.id))
+    (cases_lt q.id p.id)
+
+fold_lowest : (p : Port) (ps : List Port) → Some (fold lower_port p ps) ≡ lower p (lowest ps)
+fold_lowest p [] = refl
+fold_lowest p (q ∷ qs) = fold_lowest (lower_port p q) qs ∙ lower_port_first p q (lowest qs)
+
+reduce_lowest : (ps : List Port) → reduce lower_port ps ≡ lowest ps
+reduce_lowest [] = refl
+reduce_lowest (p ∷ ps) = fold_lowest p ps
+
+-- of two items, by the ordering of their ports' identifiers
+lower_item : (p q : Port) (o : Ordering) → nat_cmp p.id q.id ≡ o → min_by_ordering o p q ≡ lower_port p q
+lower_item p q Less e = simp (le-ltb q.id p.id (omega (arith, ranked p.id q.id Less (sym e)))) refl
+lower_item p q Equal e = simp (le-ltb q.id p.id (omega (arith, ranked p.id q.id Equal (sym e)))) refl
+lower_item p q Greater e = simp (lt-ltb q.id p.id (omega (arith, ranked p.id q.id Greater (sym e)))) refl
+
+now_of : (a b : Bor Port) (o : Ordering) → (min_by_ordering o a b).now ≡ min_by_ordering o a.now b.now
+now_of a b Less = refl
+now_of a b Equal = refl
+now_of a b Greater = refl
+
+id_of : (p q : Port) (o : Ordering) → min_by_ordering o p.id q.id ≡ (min_by_ordering o p q).id
+id_of p q Less = refl
+id_of p q Equal = refl
+id_of p q Greater = refl
+
+-- where each call of the closure gives the identifier
+module _ {F : Type 0} (g : Mut F (Bor (Bor Port) × Unit {0}) ℕ) (f : F) (calls : (x : Bor Port) (k : ℕ) (q : F) → CalledAt g f x k q → (q ≡ f) × (k ≡ x.now.id)) where
+  abbrev lower_of : Bor Port → Bor Port → Bor Port
+  lower_of a b = min_by_ordering (nat_cmp a.now.id b.now.id) a b
+
+  turns : (p : (F × ℕ) × Bor Port) (xs : List (Bor Port)) (q : (F × ℕ) × Bor Port) → p.0.0 ≡ f → p.0.1 ≡ p.1.now.id
+      → FoldsTo (KeyTurn min_by_ordering min_by_ordering g nat_cmp) p xs q → FoldsTo (λ a b r. r ≡ lower_of a b) p.1 xs q.1
+  turns p [] q a b h = ap (λ w. w.1) h
+  turns p (x ∷ xs) q a b h =
+      let t = h.1 in
+      let now = calls x t.0 h.0.0.0 (subst (λ w. CalledAt g w x t.0 h.0.0.0) a t.2) in
+      let o : t.1 ≡ nat_cmp p.1.now.id x.now.id = sym t.3 ∙ ap₂ nat_cmp b now.1 in
+      let kept : h.0.1 ≡ lower_of p.1 x = t.5 ∙ ap (λ w. min_by_ordering w p.1 x) o in
+      let key : h.0.0.1 ≡ h.0.1.now.id = t.4 ∙ ap₂ (min_by_ordering t.1) b now.1 ∙ id_of p.1.now x.now t.1 ∙ ap (λ w. w.id) (sym (now_of p.1 x t.1)) ∙ ap (λ (w : Bor Port). w.now.id) (sym t.5) in
+      (h.0.1, kept, turns h.0 xs q now.0 key h.2)
+
+  -- what `min_by_key` gives is the port of lowest identifier of those that come
+  pub lowest_from_yields_List : {S : Type 0} {steps : S → Option (Bor Port) → S → Type 0} {ps : List Port} (s : S) (r : Option (Bor Port))
+      → PicksMinByKey steps g nat_cmp s f r → YieldsList steps (λ a. a.now) s ps → option_map (λ a. a.now) r ≡ lowest ps
+  lowest_from_yields_List {S} {steps} {ps} s r h e =
+      reduce_by_from_yields_List lower_of lower_port s r (λ a b. now_of a b (nat_cmp a.now.id b.now.id) ∙ lower_item a.now b.now _ refl) (picked r h) e ∙ reduce_lowest ps where
+        picked : (r : Option (Bor Port)) → PicksMinByKey steps g nat_cmp s f r
+            → MatchOption r (Drains steps s []) (λ y. (x : Bor Port) × (xs : List (Bor Port)) × Drains steps s (x ∷ xs) × FoldsTo (λ a b c. c ≡ lower_of a b) x xs y)
+        picked None h = h
+        picked (Some y) h = let now = calls h.0 h.2 h.3 h.6 in (h.0, h.1, h.5, turns ((h.3, h.2), h.0) h.1 (h.4, y) now.0 now.1 h.7)

@@ -51,6 +51,7 @@ fn fill_entries<R: Register>(
         };
         let row = rows[place];
         if qualifies(poll, controller, row) {
+            // No chunks_exact_mut or as_chunks_mut: neither says what the space contains after it.
             space[16 * found..16 * found + 16].copy_from_slice(&entry(controller, row).to_bytes());
             rows[place] = returned_row(poll, row);
             found += 1;

@@ -1,17 +1,7 @@
 ghost use Rattle.std.specs.Prelude.{◌≡◌};
-ghost use Rattle.model.specs.Drives.{lowest_from, lower};
+ghost use Rattle.model.specs.Drives.{lowest_from};
 
 use register::Port;
-
-// Of two ports the one with the lower identifier, the first of equals.
-fn lower(port: Port, other: Option<Port>) -> Option<Port>
-    ensures { result ≡ lower port other }
-{
-    match other {
-        Some(found) if found.id < port.id => Some(found),
-        _ => Some(port),
-    }
-}
 
 // The port of lowest identifier at or above this one.
 pub(crate) fn lowest_port(ports: &[Port], from: u16) -> Option<Port>
@@ -19,7 +9,7 @@ pub(crate) fn lowest_port(ports: &[Port], from: u16) -> Option<Port>
 {
     ports
         .iter()
-        .rev()
         .filter(|port| from <= u16::from(port.id))
-        .fold(None, |lowest, port| lower(*port, lowest))
+        .min_by_key(|port| port.id)
+        .copied()
 }

@@ -2,6 +2,7 @@
 use Rattle.std.proofs.Common.{◌≡◌, ℕ, zero, suc, ◌+◌, ◌^◌, ◌<◌, ◌≤◌, false, T, List, [], ◌∷◌, map, length, get_or, take, set, sym, refl, ap, subst, arith}
 use Rattle.std.specs.List.{insert}
 use Rattle.std.specs.Ordering.{nat_cmp}
+use Rattle.std.proofs.lemmas.List.{length-set}
 use Rattle.health.specs.Values.{HealthValues, health_of}
 use Rattle.health.specs.declared.values.Health.{Health}
 use Rattle.table.specs.Orders.{first_place, is_there}
@@ -78,4 +79,4 @@ written_past (suc n) [] k h l = refl
 written_past (suc n) (x ∷ xs) zero h l = absurd (omega arith)
 written_past (suc n) (x ∷ xs) (suc k) h l = ap (λ cs. controller_of x ∷ cs) (written_past n xs k h (omega arith))
 
-pub ruleset writes = (written_of_values, written_past)
+pub ruleset writes = (written_of_values, written_past, written_stays_lawful, length-set)

@@ -49,18 +49,11 @@ loop-place-preserved g c =
 pub returns-in_default : goal.returns-in_default
 returns-in_default g c =
     let cs = (g.R.Register.meaning c.args.register.now).controllers in
-    let ws = map row_of c.args.rows.now in
-    let n = c.args.poll.maxrent + 1 in
-    let e = ended c.args.poll n cs ws c.args.space.now c.loop-place.place c.loop-place.found (map row_of c.loop-place.rows) c.loop-place.space c.loop-place.invariant
-    (no_more_controllers c.args.poll n cs ws c.args.space.now c.loop-place.place c.loop-place.found (sym c.in_default.ensures)) in
-    record { counts_those_returned = e.counts; clears_those_returned_and_no_other = e.leaves_rows; writes_their_entries_and_no_other_byte = e.writes }
+    ended c.args.poll _ cs _ _ _ _ _ _ c.loop-place.invariant
+    (no_more_controllers c.args.poll _ cs _ c.args.space.now _ _ (sym {b = slice_get cs c.loop-place.place} c.in_default.ensures))
 
 pub returns-after-loop-place : goal.returns-after-loop-place
 returns-after-loop-place g c =
-    let cs = (g.R.Register.meaning c.args.register.now).controllers in
     let ws = map row_of c.args.rows.now in
-    let n = c.args.poll.maxrent + 1 in
     let h : length ws ≤ c.loop-place.place = simp length-map (omega arith) in
-    let e = ended c.args.poll n cs ws c.args.space.now c.loop-place.place c.loop-place.found (map row_of c.loop-place.rows) c.loop-place.space c.loop-place.invariant
-    (no_more_rows c.args.poll n cs ws c.args.space.now c.loop-place.place c.loop-place.found h) in
-    record { counts_those_returned = e.counts; clears_those_returned_and_no_other = e.leaves_rows; writes_their_entries_and_no_other_byte = e.writes }
+    ended c.args.poll _ _ ws _ _ _ _ _ c.loop-place.invariant (no_more_rows c.args.poll _ _ ws c.args.space.now _ _ h)
