@@ -34,9 +34,7 @@ impl PoweredDrive {
         let mut rows = [Row::clear(); 3];
         let mut ports = [Port::default(); 2];
         let builder = fit_out(&mut register, &mut ports)?;
-        let mut subsystem = builder
-            .open(&register, &mut rows)
-            .map_err(|not_opened| not_opened.fault)?;
+        let mut subsystem = builder.open(&register, &mut rows)?;
         subsystem.set_link(&mut ports, 0, true)?;
         subsystem.report(&mut register, &mut rows, 1, READY)?;
         Ok(PoweredDrive {
