@@ -1,11 +1,11 @@
 -- The tests of a request before its bytes are read.
-use Rattle.std.proofs.Common.{◌≡◌, ℕ, ◌+◌, ◌<◌, ◌≤◌, Bool, true, false, not, eqb, ltb, List, get_or, Some, None, Ok, Err, Option, Result, sym, refl, ap, ◌∙◌, arith, length}
+use Rattle.std.proofs.Common.{◌≡◌, ℕ, ◌+◌, ◌<◌, false, ltb, List, get_or, Some, None, Ok, Err, Option, Result, sym, refl, ap, ◌∙◌, arith, length}
 use Rattle.std.specs.List.{slice_get}
 use Rattle.std.proofs.lemmas.Option.{slice_get_within}
 use Rattle.std.proofs.lemmas.Bool.{eq-eqb, ne_eqb}
 use Rattle.wire.specs.Refusals.{Refusal, refuse_if, space_too_short}
 use Rattle.wire.specs.declared.message.Lengths.{Lengths}
-use Rattle.model.specs.ServiceRefusals.{no_such_responder, responder_of_another_kind, memory_too_short}
+use Rattle.model.specs.ServiceRefusals.{responder_of_another_kind, memory_too_short}
 use Rattle.subsystem.specs.Responders.{ResponderValues, responder_of}
 use Rattle.subsystem.specs.States.{responders_of}
 use Rattle.subsystem.specs.Admission.{lent_enough, admitted_at, admission}

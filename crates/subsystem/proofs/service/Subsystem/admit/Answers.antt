@@ -1,4 +1,4 @@
-use Rattle.std.proofs.Common.{Ok, Err, sym, ap, ◌∙◌}
+use Rattle.std.proofs.Common.{ap, ◌∙◌}
 use Rattle.subsystem.specs.Faults.{in_numbers, fault_refusal}
 use Rattle.subsystem.proofs.Checks.{passed, climbed}
 use Rattle.subsystem.proofs.Admitting.{another_kind, rows_short, ports_short, last_test}
