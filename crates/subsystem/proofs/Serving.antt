@@ -2,7 +2,7 @@
 use Rattle.std.proofs.Common.{◌≡◌, ℕ, ◌+◌, ◌*◌, ◌^◌, ◌<◌, ◌≤◌, true, false, cond, ltb, List, [], ◌∷◌, ◌++◌, length, drop, Ok, Result, sym, refl, ap, ◌∙◌, subst, arith}
 use Rattle.std.proofs.lemmas.Bool.{le-ltb, ne_eqb}
 use Rattle.health.specs.Rows.{RowValues}
-use Rattle.wire.specs.Refusals.{Refusal, space_too_short}
+use Rattle.wire.specs.Refusals.{Refusal}
 use Rattle.commands.specs.Status.{head_of}
 use Rattle.commands.specs.declared.controller_poll.ControllerHealthPoll.{ControllerHealthPoll}
 use Rattle.polls.specs.Polls.{rows_after_poll, entries_space, entries_answer, rows_after_entries, space_after_entries}

@@ -1,7 +1,5 @@
 use Rattle.std.proofs.Common.{ap, ◌∙◌}
-use Rattle.wire.specs.Refusals.{refusal}
 use Rattle.subsystem.specs.Faults.{in_numbers, fault_refusal}
-use Rattle.subsystem.specs.declared.fault.Fault.TheVariants.{Carrier}
 use Rattle.subsystem.proofs.Checks.{passed, placed, climbed}
 use Rattle.subsystem.proofs.Admitting.{absent, another_kind, rows_short, ports_short, last_test}
 use Rattle.subsystem.proofs.service.Subsystem.admit.Goals as goal
@@ -28,13 +26,6 @@ returns-in_err-check_length-2 c =
     ap in_numbers (climbed _ f c.from_residual-in_err-check_length-2.ensures.1)
     ∙ ports_short c.args.self.now _ _ (placed _ _ _ _ c.in_ok-r.ensures.refused_if_absent) c.args.lengths c.args.lent c.in_ok-r.ensures.in_use _ c.deref.ensures.0 c.index-deref-r.result c.if-deref-r.false
     (passed _ _ _ tt c.in_ok-check_length.ensures).0 (fault_refusal f) c.in_err-check_length-2.ensures
-
-pub returns-in_err-check_space : goal.returns-in_err-check_space
-returns-in_err-check_space c =
-    let f = c.in_err-check_space.field-0.0 in
-    ap in_numbers (climbed _ (Carrier f) c.from_residual-in_err-check_space.ensures.1) ∙ c.in_err-check_space.ensures
-    ∙ last_test c.args.self.now _ _ (placed _ _ _ _ c.in_ok-r.ensures.refused_if_absent) c.args.lengths c.args.lent c.in_ok-r.ensures.in_use _ c.deref.ensures.0 c.index-deref-r.result c.if-deref-r.false
-    (passed _ _ _ tt c.in_ok-check_length.ensures).0 (passed _ _ _ tt c.in_ok-check_length-2.ensures).0
 
 pub returns : goal.returns
 returns c =

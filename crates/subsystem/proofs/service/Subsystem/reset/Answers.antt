@@ -1,8 +1,7 @@
 use borrow.Rule.Slice.PartMut.{put_mid}
-use Rattle.std.proofs.Common.{◌≡◌, ℕ, ◌-◌, ◌*◌, ◌<◌, ◌++◌, map, length, get_or, subst, replicate, Ok, Err, sym, ap, ◌∙◌, arith}
+use Rattle.std.proofs.Common.{◌≡◌, ◌-◌, ◌*◌, ◌++◌, map, length, get_or, replicate, Ok, Err, sym, ap, ◌∙◌, arith}
 use Rattle.std.proofs.lemmas.Bool.{ltb-false, leb-true}
 use Rattle.health.specs.Rows.{row_of, clear_row}
-use Rattle.model.specs.ServiceRefusals.{no_such_responder}
 use Rattle.model.specs.State.{with_responders}
 use Rattle.model.specs.Calls.{reset, accepted, judged, reset_responder, Step, step}
 use Rattle.subsystem.specs.Faults.{in_numbers, fault_refusal}
