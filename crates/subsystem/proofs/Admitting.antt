@@ -1,8 +1,8 @@
 -- The tests of a request before its bytes are read.
-use Rattle.std.proofs.Common.{◌≡◌, ℕ, ◌+◌, ◌<◌, ◌≤◌, Bool, true, false, not, eqb, ltb, List, get_or, Some, None, Ok, Err, Option, Result, sym, refl, ap, ◌∙◌, arith, length}
+use Rattle.std.proofs.Common.{◌≡◌, ℕ, ◌+◌, ◌<◌, false, ltb, leb, List, get_or, Some, None, Ok, Err, Option, Result, sym, refl, ap, ◌∙◌, arith, length}
 use Rattle.std.specs.List.{slice_get}
-use Rattle.std.proofs.lemmas.Option.{slice_get_within}
-use Rattle.std.proofs.lemmas.Bool.{eq-eqb, ne_eqb}
+use Rattle.std.proofs.lemmas.Option.{slice_get_within, slice_get_past}
+use Rattle.std.proofs.lemmas.Bool.{eq-eqb, ne_eqb, leb-true}
 use Rattle.wire.specs.Refusals.{Refusal, refuse_if, space_too_short}
 use Rattle.wire.specs.declared.message.Lengths.{Lengths}
 use Rattle.model.specs.ServiceRefusals.{no_such_responder, responder_of_another_kind, memory_too_short}
@@ -12,12 +12,21 @@ use Rattle.subsystem.specs.Admission.{lent_enough, admitted_at, admission}
 use Rattle.subsystem.specs.declared.lent.Lent.{Lent}
 use Rattle.subsystem.specs.declared.responder.Responder.{Responder}
 use Rattle.subsystem.specs.declared.service.Subsystem.{Subsystem}
-use Rattle.subsystem.proofs.Checks.{test_refused}
+use Rattle.subsystem.proofs.Checks.{refused_so, test_refused}
 use Rattle.subsystem.proofs.OneResponder.{nth_in_use}
 use Rattle.subsystem.proofs.Reporting.{in_use}
 
--- from what the code reads: `seen` are the Responders, n is their number, and r is the Responder's
-module _ (x : Subsystem) (r responder : ℕ) (same : r ≡ responder) (lengths : Lengths) (lent : Lent) (n : ℕ) (count : n ≡ length x.responders.items) (there : r < n)
+-- a Responder that is absent
+pub absent : (x : Subsystem) (responder : ℕ) (lengths : Lengths) (lent : Lent) (f : Refusal)
+    → ◌≡◌ {A = Result ℕ Refusal} (Err f) (refuse_if (leb (length x.responders.items) responder) (no_such_responder responder) (Ok responder))
+    → Err f ≡ admission (responders_of x) x.port_count responder lengths lent
+absent x responder lengths lent f e =
+    let t = refused_so (leb (length x.responders.items) responder) (no_such_responder responder) f responder e in
+    let past = leb-true (length x.responders.items) responder t.0 in
+    ap Err t.1 ∙ sym (ap (λ o. admitted_at o x.port_count responder lengths lent) (slice_get_past (responders_of x) responder (omega (arith, in_use x))))
+
+-- from what the code reads: `seen` are the Responders, and r is the place of the Responder
+module _ (x : Subsystem) (r responder : ℕ) (same : r ≡ responder) (lengths : Lengths) (lent : Lent) (there : r < length x.responders.items)
     (seen : List Responder) (all : seen ≡ x.responders.items) (d : Responder) where
   abbrev tested : Result (Unit {0}) Refusal
   tested = admission (responders_of x) x.port_count responder lengths lent
@@ -28,7 +37,7 @@ module _ (x : Subsystem) (r responder : ℕ) (same : r ≡ responder) (lengths :
   by_responder : admitted_at (Some (responder_of (get_or seen r d))) x.port_count responder lengths lent ≡ tested
   by_responder =
       let o : slice_get (responders_of x) responder ≡ Some (responder_of (get_or seen r d)) =
-      ap (slice_get (responders_of x)) (sym same) ∙ nth_in_use x r d (omega (arith, count)) ∙ ap (λ l. Some (responder_of (get_or l r d))) (sym all) in
+      ap (slice_get (responders_of x)) (sym same) ∙ nth_in_use x r d there ∙ ap (λ l. Some (responder_of (get_or l r d))) (sym all) in
       sym (ap (λ o. admitted_at o x.port_count responder lengths lent) o)
 
   pub another_kind : (kind ≡ lengths.kind → ⊥) → Err (responder_of_another_kind responder) ≡ tested

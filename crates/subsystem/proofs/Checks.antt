@@ -17,6 +17,15 @@ pub passed : {A : Type 0} (b : Bool) (q : Refusal) (rest : Result A Refusal) (a 
 passed true q rest a e = let z : ◌≡◌ {A = ℕ} 0 1 = cc in absurd (omega arith)
 passed false q rest a e = (refl, e)
 
+-- what is answered where a test was passed
+pub placed : (b : Bool) (q : Refusal) (n r : ℕ) → ◌≡◌ {A = Result ℕ Refusal} (Ok r) (refuse_if b q (Ok n)) → r ≡ n
+placed b q n r e = let same : ◌≡◌ {A = Result ℕ Refusal} (Ok r) (Ok n) = (passed b q (Ok n) r e).1 in cc
+
+-- a test that refused
+pub refused_so : {A : Type 0} (b : Bool) (q f : Refusal) (a : A) → Err f ≡ refuse_if b q (Ok a) → (b ≡ true) × (f ≡ q)
+refused_so true q f a e = (refl, cc)
+refused_so false q f a e = let z : ◌≡◌ {A = ℕ} 0 1 = cc in absurd (omega arith)
+
 -- how much memory is needed, in the test of the code
 pub by_needed : (lent k n : ℕ) (o : Result (Unit {0}) Refusal) → k ≡ n → o ≡ refuse_if (ltb lent k) (memory_too_short k) (Ok tt)
     → o ≡ refuse_if (ltb lent n) (memory_too_short n) (Ok tt)

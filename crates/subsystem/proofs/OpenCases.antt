@@ -1,17 +1,16 @@
 -- The cases of opening, and what it gives.
-use Rattle.std.proofs.Common.{◌≡◌, ℕ, ◌-◌, ◌*◌, ◌≤◌, Bool, true, false, ◌||◌, eqb, ltb, List, [], ◌∷◌, ◌++◌, map, length, take, drop, replicate, Ok, Result, sym, refl, ap, ◌∙◌, subst, ap₂, arith}
+use Rattle.std.proofs.Common.{◌≡◌, ℕ, ◌-◌, ◌*◌, ◌≤◌, List, [], ◌∷◌, ◌++◌, map, length, take, drop, replicate, Ok, Result, sym, refl, ap, ◌∙◌, subst, ap₂, arith}
 use native.Mathlib.Nat.{sub-zero}
 use borrow.Rule.Slice.PartMut.{mid_of, post_of}
 use Rattle.std.proofs.lemmas.List.{length-map, length-take-le, length-replicate, map-append, drop-map, drop_at, drop_all, drop-append-le, take_at, append_assoc, replicate-append-replicate}
 use Rattle.std.proofs.lemmas.Bool.{ltb-false}
 use Rattle.health.specs.Rows.{RowValues, row_of, clear_row}
 use Rattle.health.specs.declared.row.Row.{Row}
-use Rattle.wire.specs.Refusals.{Refusal, refuse_if}
+use Rattle.wire.specs.Refusals.{Refusal}
 use Rattle.register.specs.Registers.{RegisterValues}
 use Rattle.register.specs.declared.port.Port.{Port}
 use Rattle.model.specs.State.{Drive, needed_rows}
 use Rattle.model.specs.State as model
-use Rattle.model.specs.ServiceRefusals.{memory_too_short, nothing_to_open}
 use Rattle.model.specs.Fitting.{Fitted, rows_to_open, open_answer, opened, new_responder, initial_status}
 use Rattle.subsystem.specs.Responders.{ResponderValues, no_composite}
 use Rattle.subsystem.specs.States.{with_its_rows, responders_with_rows, state_from}

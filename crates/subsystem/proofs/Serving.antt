@@ -1,8 +1,8 @@
 -- The parts of a reply.
-use Rattle.std.proofs.Common.{◌≡◌, ℕ, ◌+◌, ◌*◌, ◌^◌, ◌<◌, ◌≤◌, Bool, true, false, cond, ltb, List, [], ◌∷◌, ◌++◌, length, drop, Ok, Result, sym, refl, ap, ◌∙◌, subst, arith}
+use Rattle.std.proofs.Common.{◌≡◌, ℕ, ◌+◌, ◌*◌, ◌^◌, ◌<◌, ◌≤◌, true, false, cond, ltb, List, [], ◌∷◌, ◌++◌, length, drop, Ok, Result, sym, refl, ap, ◌∙◌, subst, arith}
 use Rattle.std.proofs.lemmas.Bool.{le-ltb, ne_eqb}
 use Rattle.health.specs.Rows.{RowValues}
-use Rattle.wire.specs.Refusals.{Refusal, refuse_if, space_too_short}
+use Rattle.wire.specs.Refusals.{Refusal}
 use Rattle.commands.specs.Status.{head_of}
 use Rattle.commands.specs.declared.controller_poll.ControllerHealthPoll.{ControllerHealthPoll}
 use Rattle.polls.specs.Polls.{rows_after_poll, entries_space, entries_answer, rows_after_entries, space_after_entries}
@@ -11,7 +11,7 @@ use Rattle.register.specs.Registers.{RegisterValues}
 use Rattle.model.specs.State.{Responder}
 use Rattle.model.specs.Requests.{Served, qualifies, cleared, returned, entries, largest_id, with_rows, polled, health_poll}
 use Rattle.model.proofs.Entries.{chosen_at_most}
-use Rattle.subsystem.proofs.Checks.{passed}
+use Rattle.subsystem.proofs.Checks.{passed, placed}
 use Rattle.subsystem.specs.Replies.{ReplyIs, polled_drive, responder_with}
 use Rattle.subsystem.specs.declared.answer.Answered.{Answered}
 
@@ -29,7 +29,7 @@ module _ (p : ControllerHealthPoll) (m : RegisterValues) (ws : List RowValues) (
   room = (passed _ _ _ found answered).0
 
   pub found_is : found ≡ length (returned p cs ws)
-  found_is = let same : ◌≡◌ {A = Result ℕ Refusal} (Ok found) (Ok (length (returned p cs ws))) = (passed (ltb (length before) (entries_space p)) (space_too_short (entries_space p)) _ found answered).1 in cc
+  found_is = placed _ _ (length (returned p cs ws)) found answered
 
   pub found_at_most : found ≤ p.maxrent + 1
   found_at_most = let l = chosen_at_most (qualifies p) (p.maxrent + 1) cs ws in omega (arith, found_is)

@@ -67,7 +67,9 @@ fn head_alone(head: Head, composite: ChangedFlags) -> Answered
 fn largest_id<R: Register>(register: &R) -> u16
     ensures { result ≡ largest_id (R.Register.meaning register.now).controllers }
 {
-    register.get(register.len().saturating_sub(1)).map_or(0, |controller| controller.id)
+    register
+        .get(register.len().saturating_sub(1))
+        .map_or(0, |controller| controller.id)
 }
 
 // The composite flags, unless they are cleared.

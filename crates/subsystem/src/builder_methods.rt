@@ -33,7 +33,9 @@ impl SubsystemBuilder {
             return Err(Fault::NoKind);
         }
         let count = self.kinds.len();
-        self.kinds.try_push(kind).map_err(|_| Fault::NinthResponder)?;
+        self.kinds
+            .try_push(kind)
+            .map_err(|_| Fault::NinthResponder)?;
         Ok(count as u8)
     }
 

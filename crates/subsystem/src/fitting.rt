@@ -1,5 +1,5 @@
 // What the fitting-out calls rest on.
-ghost use Rattle.std.specs.Prelude.{◌≡◌, ◌+◌, ◌<◌, [], ◌∷◌, ◌++◌, length, take};
+ghost use Rattle.std.specs.Prelude.{◌≡◌};
 ghost use Rattle.std.specs.Option.{option_map};
 ghost use Rattle.register.specs.Controllers.{controller_of};
 ghost use Rattle.model.specs.Fitting.{controller_enrolled};

@@ -3,7 +3,7 @@ ghost use Rattle.std.specs.Prelude.{◌≡◌, ◌*◌, ◌<◌, ◌≤◌, map,
 ghost use Rattle.health.specs.Rows.{row_of};
 ghost use Rattle.subsystem.specs.Responders.{responder_of};
 ghost use Rattle.subsystem.specs.States.{responders_with_rows};
-ghost use Rattle.subsystem.specs.Marks.{raised, marked_at};
+ghost use Rattle.subsystem.specs.Marks.{marked_at};
 
 use crate::memory::Layout;
 use crate::responder::Responder;

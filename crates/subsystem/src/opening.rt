@@ -1,5 +1,5 @@
 // What opening rests on.
-ghost use Rattle.std.specs.Prelude.{◌≡◌, false, ◌||◌, map, length, is_ok, ◌==◌};
+ghost use Rattle.std.specs.Prelude.{◌≡◌, false, ◌||◌, map, is_ok, ◌==◌};
 ghost use Rattle.health.specs.Rows.{row_of};
 ghost use Rattle.polls.specs.Shown.{status_of};
 ghost use Rattle.model.specs.Fitting.{open_answer, initial_status};

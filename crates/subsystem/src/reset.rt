@@ -23,10 +23,7 @@ impl Subsystem {
         ensures is_answered_and_done_as_the_model_says { (rest : List Row) (ports : List Port) → record { answer = judged (in_numbers result); state = state_of self.new (R.Register.meaning register.now) (rows.new ++ rest) ports } ≡ step (state_of self.old (R.Register.meaning register.now) (rows.old ++ rest) ports) (reset responder (length rows.old)) }
         ensures a_refusal_changes_nothing { is_ok result ≡ false → (self.new ≡ self.old) × (rows.new ≡ rows.old) }
     {
-        let r = usize::from(responder);
-        if r >= self.responders.len() {
-            return Err(Fault::NoSuchResponder { responder });
-        }
+        let r = self.place_of(responder)?;
         let layout = self.layout(register);
         check_length(rows.len(), layout.needed())?;
         clear_rows(&mut rows[layout.rows_of(r)]);

@@ -25,10 +25,7 @@ impl Subsystem {
         requires { lengths.head ≤ 80 }
         ensures { in_numbers result ≡ admission (responders_of self.now) self.now.port_count responder lengths lent }
     {
-        let r = usize::from(responder);
-        if r >= self.responders.len() {
-            return Err(Fault::NoSuchResponder { responder });
-        }
+        let r = self.place_of(responder)?;
         if self.responders[r].kind != lengths.kind {
             return Err(Fault::ResponderOfAnotherKind { responder });
         }

@@ -1,6 +1,11 @@
-ghost use Rattle.std.specs.Prelude.{◌≡◌, ◌*◌, ◌≤◌, length};
+ghost use Rattle.std.specs.Prelude.{◌≡◌, ◌*◌, ◌<◌, ◌≤◌, length, nat_le, Ok};
+ghost use Rattle.std.specs.Result.{IfOk};
+ghost use Rattle.wire.specs.Refusals.{refuse_if};
+ghost use Rattle.model.specs.ServiceRefusals.{no_such_responder};
 ghost use Rattle.arrayvec.specs.ArrayVec.{array_vec_len};
+ghost use Rattle.subsystem.specs.Faults.{in_numbers};
 
+use crate::fault::Fault;
 use crate::memory::Layout;
 use crate::responder::Responder;
 use arrayvec::ArrayVec;
@@ -18,6 +23,18 @@ pub struct Subsystem {
 }
 
 impl Subsystem {
+    // Answers the place of a Responder. Refused if there is none with this number.
+    pub(crate) fn place_of(&self, responder: u8) -> Result<usize, Fault>
+        ensures refused_if_absent { in_numbers result ≡ refuse_if (nat_le (array_vec_len self.now.responders) responder) (no_such_responder responder) (Ok responder) }
+        ensures in_use { IfOk result (λ r. r < array_vec_len self.now.responders) }
+    {
+        let place = usize::from(responder);
+        if place >= self.responders.len() {
+            return Err(Fault::NoSuchResponder { responder });
+        }
+        Ok(place)
+    }
+
     // Answers where the rows of its Responders stand.
     pub(crate) fn layout<R: Register>(&self, register: &R) -> Layout
         ensures for_the_responders { result.responders ≡ array_vec_len self.now.responders }

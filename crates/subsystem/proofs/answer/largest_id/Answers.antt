@@ -1,4 +1,4 @@
-use Rattle.std.proofs.Common.{◌≡◌, ℕ, ◌-◌, length, ap, ◌∙◌, rules}
+use Rattle.std.proofs.Common.{◌≡◌, ◌-◌, length, ap, ◌∙◌, rules}
 use Rattle.std.specs.List.{slice_get}
 use Rattle.model.proofs.Controllers.{lawful_ascends}
 use Rattle.subsystem.proofs.Finding.{largest_is}

@@ -1,29 +1,31 @@
 use borrow.Rule.Slice.PartMut.{put_mid}
-use Rattle.std.proofs.Common.{◌≡◌, ℕ, ◌-◌, ◌*◌, ◌<◌, ◌++◌, map, length, get_or, set, subst, replicate, Ok, Err, sym, ap, ◌∙◌, arith}
-use Rattle.std.proofs.lemmas.Bool.{ltb-false}
+use Rattle.std.proofs.Common.{◌≡◌, ◌-◌, ◌*◌, ◌++◌, map, length, get_or, replicate, Ok, Err, sym, ap, ◌∙◌, arith}
+use Rattle.std.proofs.lemmas.Bool.{ltb-false, leb-true}
 use Rattle.health.specs.Rows.{row_of, clear_row}
-use Rattle.model.specs.ServiceRefusals.{no_such_responder}
 use Rattle.model.specs.State.{with_responders}
 use Rattle.model.specs.Calls.{reset, accepted, judged, reset_responder, Step, step}
 use Rattle.subsystem.specs.Faults.{in_numbers, fault_refusal}
 use Rattle.subsystem.specs.Responders.{responder_of}
 use Rattle.subsystem.specs.declared.responder.Responder.{Responder}
 use Rattle.subsystem.specs.States.{with_its_rows, state_from, drive_of, state_of}
-use Rattle.subsystem.proofs.Checks.{passed, by_needed, climbed}
+use Rattle.subsystem.proofs.Checks.{passed, placed, refused_so, by_needed, climbed}
 use Rattle.subsystem.proofs.OneResponder.{one_given_back, same_change, responder_there, responder_exists, responder_absent, responder_replaced, length_lent, own_rows_length}
 use Rattle.subsystem.proofs.Resetting.{reset_taken, reset_absent, reset_tested, is_reset}
 use Rattle.subsystem.proofs.RowGroups.{own_rows_lent}
 use Rattle.subsystem.proofs.service.Subsystem.reset.Goals as goal
 
-pub returns-then-r-len-clause-is_answered_and_done_as_the_model_says : goal.returns-then-r-len-clause-is_answered_and_done_as_the_model_says
-returns-then-r-len-clause-is_answered_and_done_as_the_model_says g c =
+pub returns-in_err-r-clause-is_answered_and_done_as_the_model_says : goal.returns-in_err-r-clause-is_answered_and_done_as_the_model_says
+returns-in_err-r-clause-is_answered_and_done_as_the_model_says g c =
     let x = c.args.self.now in
     let m = g.R.Register.meaning c.args.register.now in
     let rows = c.args.rows.now in
+    let f = c.in_err-r.field-0.0 in
+    let absent = refused_so _ _ (fault_refusal f) _ c.in_err-r.ensures.refused_if_absent in
     λ rest ports.
     let s = state_of x m (rows ++ rest) ports in
-    reset_taken s c.args.responder (length rows) (Err (no_such_responder c.args.responder))
-    (reset_absent x m (rows ++ rest) ports c.args.responder (length rows) (responder_absent x m (rows ++ rest) ports c.args.responder (omega (arith, c.from-r.ensures))))
+    ap {B = Step} (λ r. record { answer = judged (in_numbers r); state = s }) (climbed _ f c.from_residual.ensures.1)
+    ∙ reset_taken s c.args.responder (length rows) (Err (fault_refusal f))
+    (reset_absent x m (rows ++ rest) ports c.args.responder (length rows) (responder_absent x m (rows ++ rest) ports c.args.responder (leb-true _ _ absent.0)) ∙ ap Err (sym absent.1))
 
 pub returns-in_err-check_length-clause-is_answered_and_done_as_the_model_says : goal.returns-in_err-check_length-clause-is_answered_and_done_as_the_model_says
 returns-in_err-check_length-clause-is_answered_and_done_as_the_model_says g c =
@@ -33,9 +35,9 @@ returns-in_err-check_length-clause-is_answered_and_done_as_the_model_says g c =
     let f = c.in_err-check_length.field-0.0 in
     λ rest ports.
     let s = state_of x m (rows ++ rest) ports in
-    ap {B = Step} (λ r. record { answer = judged (in_numbers r); state = s }) (climbed _ f c.from_residual.ensures.1)
+    ap {B = Step} (λ r. record { answer = judged (in_numbers r); state = s }) (climbed _ f c.from_residual-in_err-check_length.ensures.1)
     ∙ reset_taken s c.args.responder (length rows) (Err (fault_refusal f))
-    (let y = responder_exists x m (rows ++ rest) ports c.args.responder (omega (arith, c.from-r.ensures)) in
+    (let y = responder_exists x m (rows ++ rest) ports c.args.responder (omega (arith, placed _ _ _ _ c.in_ok-r.ensures.refused_if_absent, c.in_ok-r.ensures.in_use)) in
     reset_tested x m (rows ++ rest) ports c.args.responder (length rows) y.0 y.1 (Err (fault_refusal f))
     (by_needed (length rows) _ _ (Err (fault_refusal f)) (c.needed.ensures ∙ c.layout-layout.ensures.for_both) c.in_err-check_length.ensures))
 
@@ -44,7 +46,7 @@ returns-clause-is_answered_and_done_as_the_model_says g c =
     let x = c.args.self.now in
     let m = g.R.Register.meaning c.args.register.now in
     let rows = c.args.rows.now in
-    let r = c.from-r.result in
+    let r = c.in_ok-r.r in
     let k = c.rows_of.result.start in
     let n = c.rows_of.result.end - k in
     let part = c.clear_rows.new.rows in
@@ -54,7 +56,7 @@ returns-clause-is_answered_and_done_as_the_model_says g c =
     let cleared_flags : Responder → Responder = λ y. record { kind = y.kind; composite = c.none.result } in
     let new = cleared_flags (get_or items r old) in
     let back = one_given_back cleared_flags items c.deref_mut.result.now r old c.deref_mut.ensures.value in
-    let in_use = subst (λ (v : ℕ). r < v) c.len.ensures.value c.if-r-len.false in
+    let in_use = c.in_ok-r.ensures.in_use in
     let en : n ≡ length m.controllers = omega (arith, c.rows_of.ensures.begins, c.rows_of.ensures.ends, c.layout-layout.ensures.for_the_controllers) in
     let ek : k ≡ r * length m.controllers = c.rows_of.ensures.begins ∙ ap (λ v. r * v) c.layout-layout.ensures.for_the_controllers in
     let tested = by_needed (length rows) _ _ (Ok tt) (c.needed.ensures ∙ c.layout-layout.ensures.for_both) c.in_ok-check_length.ensures in
@@ -70,4 +72,4 @@ returns-clause-is_answered_and_done_as_the_model_says g c =
     (is_reset (responder_of new) (responder_of (get_or x.responders.items r old)) (map row_of part) _ (length m.controllers) (ap (λ v. record { kind = kind; composite = v }) c.none.ensures) cleared
     (own_rows_length (length m.controllers) r k rows rest ek within))))
     ∙ reset_taken s r (length rows) (Ok tt) (let y = responder_exists x m (rows ++ rest) ports r in_use in reset_tested x m (rows ++ rest) ports r (length rows) y.0 y.1 (Ok tt) tested)
-    ∙ ap (λ v. step s (reset v (length rows))) c.from-r.ensures
+    ∙ ap (λ v. step s (reset v (length rows))) (placed _ _ _ _ c.in_ok-r.ensures.refused_if_absent)

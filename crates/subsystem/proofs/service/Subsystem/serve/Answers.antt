@@ -1,4 +1,4 @@
-use Rattle.std.proofs.Common.{◌++◌, Ok, ap, ◌∙◌, arith}
+use Rattle.std.proofs.Common.{◌++◌, ap, ◌∙◌, arith}
 use Rattle.wire.specs.Refusals.{refusal}
 use Rattle.subsystem.specs.Faults.{in_numbers, fault_refusal}
 use Rattle.subsystem.specs.declared.fault.Fault.TheVariants.{Carrier}
