@@ -39,19 +39,7 @@ lower_port p q = cond (nat_lt q.id p.id) q p
 
 lower_port_first : (p q : Port) (o : Option Port) → lower (lower_port p q) o ≡ lower p (lower q o)
 lower_port_first p q None = elim (nat_lt q.id p.id) as (λ b. Some (cond b q p) ≡ cond b (Some q) (Some p)) [ true ↦ refl | false ↦ refl ]
-lower_port_first p q (Some r) =
-    ⊎_elim
-    (λ (a : q.id < p.id).
-    ⊎_elim
-    (λ (b : r.id < q.id). simp (lt-ltb q.id p.id a, lt-ltb r.id q.id b, lt-ltb r.id p.id (omega arith)) refl)
-    (λ (b : q.id ≤ r.id). simp (lt-ltb q.id p.id a, le-ltb r.id q.id b) refl)
-    (cases_lt r.id q.id))
-    (λ (a : p.id ≤ q.id).
-    ⊎_elim
-    (λ (b : r.id < q.id). simp (le-ltb q.id p.id a, lt-ltb r.id q.id b) refl)
-    (λ (b : q.id ≤ r.id). simp (le-ltb q.id p.id a, le-ltb r.id q.id b, le-ltb r.id p.id (omega arith)) refl)
-    (cases_lt r.id q.id))
-    (cases_lt q.id p.id)
+lower_port_first p q (Some r) = grind arith
 
 fold_lowest : (p : Port) (ps : List Port) → Some (fold lower_port p ps) ≡ lower p (lowest ps)
 fold_lowest p [] = refl
@@ -67,15 +55,11 @@ lower_item p q Less e = simp (le-ltb q.id p.id (omega (arith, ranked p.id q.id L
 lower_item p q Equal e = simp (le-ltb q.id p.id (omega (arith, ranked p.id q.id Equal (sym e)))) refl
 lower_item p q Greater e = simp (lt-ltb q.id p.id (omega (arith, ranked p.id q.id Greater (sym e)))) refl
 
-now_of : (a b : Bor Port) (o : Ordering) → (min_by_ordering o a b).now ≡ min_by_ordering o a.now b.now
-now_of a b Less = refl
-now_of a b Equal = refl
-now_of a b Greater = refl
-
-id_of : (p q : Port) (o : Ordering) → min_by_ordering o p.id q.id ≡ (min_by_ordering o p q).id
-id_of p q Less = refl
-id_of p q Equal = refl
-id_of p q Greater = refl
+-- what is read of the item that is kept
+read_of_kept : {A B : Type 0} (f : A → B) (a b : A) (o : Ordering) → f (min_by_ordering o a b) ≡ min_by_ordering o (f a) (f b)
+read_of_kept f a b Less = refl
+read_of_kept f a b Equal = refl
+read_of_kept f a b Greater = refl
 
 -- where each call of the closure gives the identifier
 module _ {F : Type 0} (g : Mut F (Bor (Bor Port) × Unit {0}) ℕ) (f : F) (calls : (x : Bor Port) (k : ℕ) (q : F) → CalledAt g f x k q → (q ≡ f) × (k ≡ x.now.id)) where
@@ -87,17 +71,18 @@ module _ {F : Type 0} (g : Mut F (Bor (Bor Port) × Unit {0}) ℕ) (f : F) (call
   turns p [] q a b h = ap (λ w. w.1) h
   turns p (x ∷ xs) q a b h =
       let t = h.1 in
+      let id_now : Bor Port → ℕ = λ w. w.now.id in
       let now = calls x t.0 h.0.0.0 (subst (λ w. CalledAt g w x t.0 h.0.0.0) a t.2) in
       let o : t.1 ≡ nat_cmp p.1.now.id x.now.id = sym t.3 ∙ ap₂ nat_cmp b now.1 in
       let kept : h.0.1 ≡ lower_of p.1 x = t.5 ∙ ap (λ w. min_by_ordering w p.1 x) o in
-      let key : h.0.0.1 ≡ h.0.1.now.id = t.4 ∙ ap₂ (min_by_ordering t.1) b now.1 ∙ id_of p.1.now x.now t.1 ∙ ap (λ w. w.id) (sym (now_of p.1 x t.1)) ∙ ap (λ (w : Bor Port). w.now.id) (sym t.5) in
+      let key : h.0.0.1 ≡ h.0.1.now.id = t.4 ∙ ap₂ (min_by_ordering t.1) b now.1 ∙ sym (ap id_now t.5 ∙ read_of_kept id_now p.1 x t.1) in
       (h.0.1, kept, turns h.0 xs q now.0 key h.2)
 
   -- what `min_by_key` gives is the port of lowest identifier of those that come
   pub lowest_from_yields_List : {S : Type 0} {steps : S → Option (Bor Port) → S → Type 0} {ps : List Port} (s : S) (r : Option (Bor Port))
       → PicksMinByKey steps g nat_cmp s f r → YieldsList steps (λ a. a.now) s ps → option_map (λ a. a.now) r ≡ lowest ps
   lowest_from_yields_List {S} {steps} {ps} s r h e =
-      reduce_by_from_yields_List lower_of lower_port s r (λ a b. now_of a b (nat_cmp a.now.id b.now.id) ∙ lower_item a.now b.now _ refl) (picked r h) e ∙ reduce_lowest ps where
+      reduce_by_from_yields_List lower_of lower_port s r (λ a b. read_of_kept (λ (w : Bor Port). w.now) a b (nat_cmp a.now.id b.now.id) ∙ lower_item a.now b.now _ refl) (picked r h) e ∙ reduce_lowest ps where
         picked : (r : Option (Bor Port)) → PicksMinByKey steps g nat_cmp s f r
             → MatchOption r (Drains steps s []) (λ y. (x : Bor Port) × (xs : List (Bor Port)) × Drains steps s (x ∷ xs) × FoldsTo (λ a b c. c ≡ lower_of a b) x xs y)
         picked None h = h

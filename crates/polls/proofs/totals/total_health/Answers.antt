@@ -1,11 +1,11 @@
-use Rattle.std.proofs.Common.{◌≡◌, ℕ, ◌-◌, ◌<◌, max, List, drop, Some, sym, ap, ◌∙◌, arith}
+use Rattle.std.proofs.Common.{◌≡◌, ℕ, ◌-◌, ◌<◌, max, List, drop, Some, sym, ap, ◌∙◌}
 use lib.Bits.{bit_or}
 use Rattle.std.specs.Option.{option_map}
 use Rattle.std.specs.List.{slice_get}
 use Rattle.health.specs.Values.{HealthValues}
 use Rattle.register.specs.Controllers.{ControllerValues, controller_of}
 use Rattle.model.specs.Requests.{over}
-use Rattle.polls.proofs.Steps.{drop_last_nth, nth_within}
+use Rattle.polls.proofs.Steps.{drop_last_nth}
 use Rattle.polls.proofs.totals.total_health.Goals as goal
 
 -- one controller more, from the last to the first
@@ -24,8 +24,3 @@ loop-place-preserved-in-Some g c =
       joined max _ cs _ _ _ (controller_of c.in-Some.controller) h e i.1 w.takes_the_warmer,
       joined max _ cs _ _ _ (controller_of c.in-Some.controller) h e i.2 w.takes_the_more_used,
     )
-
-pub loop-place-preserved : goal.loop-place-preserved
-loop-place-preserved g c =
-    let cs = (g.R.Register.meaning c.args.register.now).controllers in
-    absurd (nth_within cs (c.loop-place.place - 1) (omega (arith, c.len-place.ensures)) (sym c.in_default.ensures))
