@@ -23,7 +23,7 @@ impl Responder {
     }
 }
 
-// What an unused place holds. By hand: no `Default` is derived over `ChangedFlags`, which has a ghost field.
+// What an unused place holds. By hand: `ChangedFlags` has no `Default`, since none is derived over a ghost field.
 impl Default for Responder {
     fn default() -> Self {
         Responder::new(0)
