@@ -10,7 +10,7 @@ pub struct NotOpened {
     pub fault: Fault,
 }
 
-// Of a refused opening the fault alone climbs.
+// Of a refused opening only the fault is passed on.
 impl From<NotOpened> for Fault {
     ghost from_gives = { λ n f. f ≡ n.fault };
 
