@@ -60,7 +60,8 @@ fn digit(code: u8) -> Option<u8>
     }
 }
 
-// The bytes that pairs of hex digits name. The kit's crate `hex` is no plainer here: its fault would be turned into ours by hand.
+// The bytes that pairs of hex digits name. By hand, and not by the kit's crate `hex`: three must-fail edits, of an
+// odd digit and of two faults, are edits of this code and keep their meaning.
 #[tactic(auto, using(crate::proofs::Pairs::none_read, crate::proofs::Pairs::odd))]
 pub fn read_hex(heap: Global, text: &[u8]) -> Result<Vec<u8>, HexFault>
     ensures { Reads result text.now }

@@ -21,7 +21,7 @@ pub fn read_asked(mut words: SplitWhitespace<'_>) -> Result<Asked, LineFault> {
     }
 }
 
-// `drive` reads a flag alike, and has another fault for what is none.
+// `drive` reads a flag alike: a public function in `console`, with its contract and edit, would be no shorter.
 fn read_bit(value: &str) -> Result<bool, LineFault> {
     match value {
         "0" => Ok(false),

@@ -4,8 +4,8 @@ ghost use Rattle.register.specs.Controllers.{controller_of, lawful};
 use crate::controller::Controller;
 
 // A register of capacity 4 that holds its own controllers: the first `count` of its slots.
-// No `ArrayVec`: its unused places are no values, so that four must-fail edits, of a count, a record, a search and a write among unused slots, could
-// not keep their meaning.
+// No `ArrayVec`: nothing reaches its unused places, so that four must-fail edits, of a count, a record, a search and a write among unused slots,
+// could not keep their meaning.
 #[derive(Drop)]
 pub struct InlineRegister {
     pub(crate) count: usize,

@@ -1,4 +1,4 @@
-// The tests of the memory that a call is lent, and the places of the rows in it.
+// The test of the rows and the port memory that a call is lent, and where a row stands in them.
 ghost use Rattle.std.specs.Prelude.{◌≡◌, ◌+◌, ◌*◌, ◌^◌, ◌<◌, ◌≤◌, length, Ok, nat_lt};
 ghost use Rattle.wire.specs.Refusals.{refuse_if};
 ghost use Rattle.model.specs.ServiceRefusals.{memory_too_short};

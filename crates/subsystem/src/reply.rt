@@ -24,7 +24,7 @@ impl<R: Register> Polled<'_, R> {
         answered
     }
 
-    // Answers a request, with the data behind a head of this length.
+    // Answers a request, with the data behind a head of this length. The rows stand apart from `Polled`, as there.
     pub(crate) fn answer_behind_head(
         &self,
         own: &mut [Row],
