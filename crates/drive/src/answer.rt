@@ -1,5 +1,4 @@
 use console::{HexBytes, RefusalNumbers};
-use health::ChangedFlags;
 use std::fmt;
 use subsystem::Fault;
 use thiserror::Error;
@@ -12,8 +11,8 @@ pub enum Grant<'a> {
     Numbered(u8),
     // the bytes of the reply
     Replied(&'a [u8]),
-    // the flags that a report gains, none where it is malformed
-    Gained(Option<ChangedFlags>),
+    // the word of the flags that a report gains
+    Gained(u16),
     Code(u8),
 }
 
@@ -26,10 +25,7 @@ impl fmt::Display for Grant<'_> {
                 let reply = HexBytes { bytes };
                 write!(f, "granted {reply}")
             }
-            Grant::Gained(flags) => {
-                let bits = flags.map_or(0xffff, |flags| flags.bits());
-                write!(f, "{bits:04X}")
-            }
+            Grant::Gained(flags) => write!(f, "{flags:04X}"),
             Grant::Code(code) => write!(f, "{code:02X}"),
         }
     }

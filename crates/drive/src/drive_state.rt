@@ -1,7 +1,7 @@
 use crate::answer::{CallFault, Grant};
 use crate::call::{Call, CarrierName, FittingOutCall, RequestCall, ServiceCall};
 use crate::memory::Memory;
-use health_rules::{changed_flags_gained, temperature_code};
+use health_rules::{changed_flags_word, temperature_code};
 use register::InlineRegister;
 use std::mem;
 use subsystem::{Fault, NotOpened, Subsystem, SubsystemBuilder};
@@ -50,7 +50,7 @@ impl Drive {
                 self.memory.reply.lend(length);
                 Ok(Grant::Done)
             }
-            Call::Gained { old, new } => Ok(Grant::Gained(changed_flags_gained(old, new))),
+            Call::Gained { old, new } => Ok(Grant::Gained(changed_flags_word(old, new))),
             Call::Code(kelvins) => Ok(Grant::Code(temperature_code(kelvins))),
             Call::FittingOut(call) => self.fit_out(call),
             Call::Open => self.open(),

@@ -73,3 +73,10 @@ pub fn changed_flags_gained(old: Report, new: Report) -> Option<ChangedFlags>
     new.is_well_formed()
         .then(|| gained_flags(old.health(), new))
 }
+
+// The same as a number, for those who pass it on as one: FFFFh for a malformed report.
+pub fn changed_flags_word(old: Report, new: Report) -> u16
+    ensures { result ≡ exported old new }
+{
+    changed_flags_gained(old, new).map_or(0xffff, |flags| flags.bits())
+}

@@ -4,5 +4,5 @@
 mod flag_rule;
 mod temperature;
 
-pub use flag_rule::{changed_flags_gained, gained_flags};
+pub use flag_rule::{changed_flags_gained, changed_flags_word, gained_flags};
 pub use temperature::temperature_code;

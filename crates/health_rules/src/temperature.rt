@@ -8,6 +8,13 @@ pub fn temperature_code(kelvins: u16) -> u8
     if kelvins == 0 {
         return 0x80;
     }
-    let celsius = (i32::from(kelvins) - 273).clamp(-60, 127);
-    (celsius as i8).cast_unsigned()
+    // No `clamp`: it took twice the time.
+    let celsius = i32::from(kelvins) - 273;
+    if celsius >= 127 {
+        0x7f
+    } else if celsius <= -60 {
+        0xc4
+    } else {
+        (celsius as i8).cast_unsigned()
+    }
 }

@@ -6,7 +6,7 @@ ghost use Rattle.health_rules.specs.FlagRule.{exported};
 ghost use Rattle.health_rules.specs.Temperature.{code_of};
 
 use health::Report;
-use health_rules::temperature_code;
+use health_rules::{changed_flags_word, temperature_code};
 
 // The flag rule. A malformed report gets FFFFh. Old status bits above 5 are ignored.
 #[unsafe(no_mangle)]
@@ -38,7 +38,7 @@ pub extern "C" fn changed_flags_gained(
         available_spare,
         critical_warning,
     };
-    health_rules::changed_flags_gained(old, new).map_or(0xffff, |flags| flags.bits())
+    changed_flags_word(old, new)
 }
 
 // The temperature code.

@@ -1,12 +1,14 @@
--- Rows that are all one value.
-use Rattle.std.proofs.Common.{◌≡◌, ℕ, zero, suc, List, ◌∷◌, map, replicate, refl, ap, ◌∙◌}
-use Rattle.health.specs.Rows.{RowValues, row_of}
-use Rattle.health.specs.declared.row.Row.{Row}
+-- A loop that writes one value over every element, as seen through a map.
+use Rattle.std.proofs.Common.{◌≡◌, ℕ, ◌+◌, ◌<◌, ◌≤◌, List, [], ◌∷◌, ◌++◌, map, length, get_or, drop, set, replicate, sym, ap, ◌∙◌}
+use Rattle.std.proofs.lemmas.List.{map-set, set_at, drop_more, drop_all, append_assoc, append-nil, replicate_more, length-replicate}
 
-every_one : (n : ℕ) (w : Row) (v : RowValues) → row_of w ≡ v → map row_of (replicate n w) ≡ replicate n v
-every_one zero w v e = refl
-every_one (suc n) w v e = λ i. e i ∷ every_one n w v e i
+pub clear_more : {X Y : Type 0} (f : X → Y) (z : Y) (xs : List X) (i : ℕ) (m : List Y) (x : X)
+    → map f xs ≡ replicate i z ++ drop i m → i < length m → f x ≡ z → map f (set xs i x) ≡ replicate (i + 1) z ++ drop (i + 1) m
+clear_more f z xs i m x inv l e =
+    map-set f xs i x ∙ ap (λ l. set l i (f x)) inv ∙ ap (set (replicate i z ++ drop i m) i) e
+    ∙ ap (λ l. set (replicate i z ++ l) i z) (drop_more m i z l)
+    ∙ set_at (replicate i z) (get_or m i z) (drop (i + 1) m) z i (length-replicate i z)
+    ∙ sym (append_assoc (replicate i z) (z ∷ []) (drop (i + 1) m)) ∙ ap (λ l. l ++ drop (i + 1) m) (replicate_more i z)
 
--- where each is a clone of one row
-pub filled_with : (rows : List Row) (n : ℕ) (w : Row) (v : RowValues) → (((y : Row) → y ≡ w → y ≡ w) → rows ≡ replicate n w) → row_of w ≡ v → map row_of rows ≡ replicate n v
-filled_with rows n w v e f = ap (map row_of) (e (λ y same. same)) ∙ every_one n w v f
+pub clear_all : {Y : Type 0} (z : Y) (i : ℕ) (m : List Y) → length m ≤ i → replicate i z ++ drop i m ≡ replicate i z
+clear_all z i m l = ap (λ r. replicate i z ++ r) (drop_all i m l) ∙ append-nil (replicate i z)

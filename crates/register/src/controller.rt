@@ -1,4 +1,5 @@
 ghost use Rattle.std.specs.Prelude.{◌≡◌};
+ghost use Rattle.std.proofs.lemmas.Map.Lookups.{exact_unsigned};
 ghost use Rattle.register.specs.Functions.{function_number, function_read};
 
 use health::Health;
@@ -59,4 +60,6 @@ impl Numbered for Controller {
     fn number(self) -> u16 {
         self.id
     }
+
+    ghost equals_are_the_same = { exact_unsigned };
 }

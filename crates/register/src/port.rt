@@ -1,3 +1,5 @@
+ghost use Rattle.std.proofs.lemmas.Map.Lookups.{exact_unsigned};
+
 use table::Numbered;
 
 // A PCIe port of the drive.
@@ -15,4 +17,6 @@ impl Numbered for Port {
     fn number(self) -> u8 {
         self.id
     }
+
+    ghost equals_are_the_same = { exact_unsigned };
 }

@@ -70,11 +70,14 @@ map-put_mid f a k xs ys =
     map-append f (take a xs) (ys ++ drop k (drop a xs))
     ∙ ap₂ (λ u v. u ++ v) (sym (take-map f a xs)) (map-append f ys (drop k (drop a xs)) ∙ ap (λ v. map f ys ++ v) (sym (ap (drop k) (drop-map f a xs) ∙ drop-map f k (drop a xs))))
 
+-- elements that were lent and given back, with another at one place
+pub replaced_given_back : {X : Type 0} (xs lent : List X) (r : ℕ) (y : X) → lent ≡ xs → refill (length xs) xs (set lent r y) ≡ set xs r y
+replaced_given_back xs lent r y e = ap (λ l. refill (length xs) xs (set l r y)) e ∙ given_back xs (set xs r y) (length-set xs r y)
+
 -- elements that were lent and given back, changed at one place
 pub one_given_back : {X : Type 0} (f : X → X) (xs lent : List X) (r : ℕ) (d : X) → lent ≡ xs
     → refill (length xs) xs (set lent r (f (get_or lent r d))) ≡ set xs r (f (get_or xs r d))
-one_given_back f xs lent r d e =
-    ap (λ l. refill (length xs) xs (set l r (f (get_or l r d)))) e ∙ given_back xs (set xs r (f (get_or xs r d))) (length-set xs r (f (get_or xs r d)))
+one_given_back f xs lent r d e = replaced_given_back xs lent r (f (get_or lent r d)) e ∙ ap (λ l. set xs r (f (get_or l r d))) e
 
 -- a Responder of the code that is in use
 pub nth_in_use : (x : Subsystem) (r : ℕ) (d : Responder) → r < length x.responders.items → slice_get (responders_of x) r ≡ Some (responder_of (get_or x.responders.items r d))

@@ -21,6 +21,16 @@ fn place_of(ports: &[Port], id: u8) -> Option<usize>
     ports.iter().position(|port| port.id == id)
 }
 
+// The port with this link.
+fn with_link(port: Port, up: bool) -> Port
+    ensures { result ≡ record { id = port.id; link_up = up } }
+{
+    Port {
+        link_up: up,
+        ..port
+    }
+}
+
 // The first port with the identifier gets the link. Refused if there is none.
 fn link_port(ports: &mut [Port], id: u8, up: bool) -> Result<(), Fault>
     ensures refused_if_there_is_none { in_numbers result ≡ refuse_if (not (is_port id ports.old)) (unknown_identifier id) (Ok tt) }
@@ -28,7 +38,7 @@ fn link_port(ports: &mut [Port], id: u8, up: bool) -> Result<(), Fault>
     ensures a_refusal_changes_nothing { is_ok result ≡ false → ports.new ≡ ports.old }
 {
     let place = place_of(ports, id).ok_or(Fault::UnknownIdentifier { id: u16::from(id) })?;
-    ports[place].link_up = up;
+    ports[place] = with_link(ports[place], up);
     Ok(())
 }
 

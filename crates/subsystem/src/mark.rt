@@ -3,11 +3,21 @@ ghost use Rattle.std.specs.Prelude.{◌≡◌, ◌*◌, ◌<◌, ◌≤◌, map,
 ghost use Rattle.health.specs.Rows.{row_of};
 ghost use Rattle.subsystem.specs.Responders.{responder_of};
 ghost use Rattle.subsystem.specs.States.{responders_with_rows};
-ghost use Rattle.subsystem.specs.Marks.{marked_at};
+ghost use Rattle.subsystem.specs.Marks.{raised, marked_at};
 
 use crate::memory::Layout;
 use crate::responder::Responder;
 use health::{ChangedFlags, Row, StatusEvents};
+
+// The Responder's composite flags rise where the row's flags do.
+fn raise(responder: Responder, row: Row, gained: ChangedFlags) -> Responder
+    ensures { responder_of result ≡ raised gained.bits (row_of row) (responder_of responder) }
+{
+    Responder {
+        composite: responder.composite.union(gained.difference(row.changed)),
+        ..responder
+    }
+}
 
 // Each Responder's row of the controller at a place gains the flags and the status events.
 pub(crate) fn mark_responders(
@@ -26,7 +36,7 @@ pub(crate) fn mark_responders(
 {
     for (r, responder) in responders.iter_mut().enumerate() {
         let row = &mut rows[layout.index(r, place)];
-        responder.composite = responder.composite.union(gained.difference(row.changed));
+        *responder = raise(*responder, *row, gained);
         *row = row.with(gained, events);
     }
 }

@@ -8,7 +8,7 @@ ghost use Rattle.subsystem.specs.States.{state_of};
 use crate::fault::Fault;
 use crate::memory::check_length;
 use crate::service::Subsystem;
-use health::{ChangedFlags, Row};
+use health::Row;
 use polls::clear_rows;
 use register::Register;
 
@@ -27,7 +27,7 @@ impl Subsystem {
         let layout = self.layout(register);
         check_length(rows.len(), layout.needed())?;
         clear_rows(&mut rows[layout.rows_of(r)]);
-        self.responders[r].composite = ChangedFlags::none();
+        self.responders[r] = self.responders[r].without_composite();
         Ok(())
     }
 }

@@ -21,6 +21,13 @@ impl Responder {
             composite: ChangedFlags::none(),
         }
     }
+
+    // The same Responder with no composite flag set.
+    pub(crate) fn without_composite(self) -> Self
+        ensures { responder_of result ≡ no_composite self.kind }
+    {
+        Responder::new(self.kind)
+    }
 }
 
 // What an unused place holds. By hand: `ChangedFlags` has no `Default`, since none is derived over a ghost field.

@@ -1,5 +1,6 @@
-ghost use Rattle.std.specs.Prelude.{◌≡◌, ◌*◌, ◌<◌, ◌≤◌, false, List, ◌++◌, length, is_ok, Some};
+ghost use Rattle.std.specs.Prelude.{◌≡◌, ◌+◌, ◌*◌, ◌<◌, ◌≤◌, false, List, ◌++◌, length, is_ok, Some, Ok, nat_lt};
 ghost use Rattle.health.specs.declared.row.Row.{Row};
+ghost use Rattle.wire.specs.Refusals.{refuse_if, space_too_short};
 ghost use Rattle.register.specs.declared.port.Port.{Port};
 ghost use Rattle.model.specs.State.{Responder};
 ghost use Rattle.model.specs.Calls.{request, step, reply_space, responder_at};
@@ -19,6 +20,15 @@ use health::Row;
 use register::{Port, Register};
 use wire::{Carrier, Lengths, Request, check_space};
 
+// Refuses reply memory that is shorter than a head and 255 entries.
+fn check_reply(length: usize, head: usize) -> Result<(), Fault>
+    requires { head ≤ 80 }
+    ensures { in_numbers result ≡ refuse_if (nat_lt length (head + 4080)) (space_too_short (head + 4080)) (Ok tt) }
+{
+    check_space(length, head + 4080)?;
+    Ok(())
+}
+
 impl Subsystem {
     // Refuses a request whose Responder is absent or of another kind, or that is lent too little memory.
     fn admit(&self, responder: u8, lengths: Lengths, lent: Lent) -> Result<(), Fault>
@@ -31,8 +41,7 @@ impl Subsystem {
         }
         check_length(lent.rows, lent.rows_needed)?;
         check_length(lent.ports, self.port_count)?;
-        check_space(lent.reply, lengths.head + 4080)?;
-        Ok(())
+        check_reply(lent.reply, lengths.head)
     }
 
     // Answers a request that was read, at a Responder, and writes the reply. Answers its length.

@@ -1,26 +1,36 @@
--- Records moved up by one, and another put at the place that they leave.
-use Rattle.std.proofs.Common.{◌≡◌, ℕ, zero, suc, ◌+◌, ◌-◌, ◌<◌, ◌≤◌, List, [], ◌∷◌, ◌++◌, length, take, drop, slice_set, refl, sym, ap, ◌∙◌, add-one, append_assoc, arith}
-use Rattle.std.proofs.lemmas.List.{take-take, drop-take}
-use Rattle.std.specs.List.{insert, copy_within}
+-- A record put behind those in use, and then turned into its place.
+use Rattle.std.proofs.Common.{◌≡◌, ℕ, suc, ◌+◌, ◌-◌, ◌<◌, ◌≤◌, List, [], ◌∷◌, ◌++◌, length, take, drop, set, sym, ap, ◌∙◌, add-one, arith}
+use borrow.Rule.Slice.PartMut.{put_mid}
+use Rattle.std.specs.List.{insert}
+use Rattle.std.proofs.lemmas.List.{length-take, length-drop, length_push, set_split, take-append-drop, append_assoc, take_at, drop_at}
 
--- the last record of a front is replaced
-last_set : {X : Type 0} (xs zs : List X) (place : ℕ) (x : X) → place < length xs
-    → slice_set (take (suc place) xs ++ zs) place x ≡ take place xs ++ x ∷ zs
-last_set [] zs place x h = absurd (omega arith)
-last_set (y ∷ ys) zs zero x h = refl
-last_set (y ∷ ys) zs (suc p) x h = ap (λ l. y ∷ l) (last_set ys zs p x (omega arith))
-
-pub moved_in : {X : Type 0} (xs : List X) (n place : ℕ) (x : X) → n < length xs → place ≤ n
-    → slice_set (copy_within xs place n (place + 1)) place x ≡ insert (take n xs) place x ++ drop (n + 1) xs
-moved_in xs n place x h l =
-    let Z = drop (n + 1) xs in
-    let front = take-take place n xs l in
-    let moved : drop place (take n xs) ≡ take (n - place) (drop place xs) =
-    ap (λ k. drop place (take k xs)) (omega arith) ∙ drop-take place (n - place) xs in
-    let rest : place + 1 + (n - place) ≡ n + 1 = omega arith in
-    ap (λ l. slice_set l place x) (append_assoc (take (place + 1) xs) (take (n - place) (drop place xs)) (drop (place + 1 + (n - place)) xs))
-    ∙ ap (λ k. slice_set (take (place + 1) xs ++ (take (n - place) (drop place xs) ++ drop k xs)) place x) rest
-    ∙ ap (λ k. slice_set (take k xs ++ (take (n - place) (drop place xs) ++ Z)) place x) (add-one place)
-    ∙ last_set xs (take (n - place) (drop place xs) ++ Z) place x (omega arith)
-    ∙ sym (append_assoc (take place xs) (x ∷ take (n - place) (drop place xs)) Z)
-    ∙ rw (front, moved) refl
+-- the part from `place` to `n`, turned by one, after x was put at `n`
+pub turned_in : {X : Type 0} (xs : List X) (n place : ℕ) (x : X) (part : List X) → n < length xs → place ≤ n
+    → part ≡ drop (n + 1 - place - 1) (take (n + 1 - place) (drop place (set xs n x))) ++ take (n + 1 - place - 1) (take (n + 1 - place) (drop place (set xs n x)))
+    → put_mid place (n + 1 - place) (set xs n x) part ≡ insert (take n xs) place x ++ drop (n + 1) xs
+turned_in xs n place x part h l e =
+    let A = take place (take n xs) in
+    let B = drop place (take n xs) in
+    let R = drop (suc n) xs in
+    let lc : length (take n xs) ≡ n = simp length-take (omega arith) in
+    let la : length A ≡ place = simp length-take (omega arith) in
+    let lb : length B ≡ n - place = simp length-drop (omega arith) in
+    let whole : set xs n x ≡ A ++ (B ++ x ∷ R) =
+    set_split xs n x h ∙ ap (λ l. l ++ x ∷ R) (sym (take-append-drop place (take n xs))) ∙ append_assoc A B (x ∷ R) in
+    let front : take place (set xs n x) ≡ A = ap (take place) whole ∙ take_at A (B ++ x ∷ R) place la in
+    let back : drop place (set xs n x) ≡ (B ++ x ∷ []) ++ R =
+    ap (drop place) whole ∙ drop_at A (B ++ x ∷ R) place la ∙ sym (append_assoc B (x ∷ []) R) in
+    let lbx : length (B ++ x ∷ []) ≡ n + 1 - place = simp length_push (omega arith) in
+    let mid : take (n + 1 - place) (drop place (set xs n x)) ≡ B ++ x ∷ [] =
+    ap (take (n + 1 - place)) back ∙ take_at (B ++ x ∷ []) R (n + 1 - place) lbx in
+    let end : drop (n + 1 - place) (drop place (set xs n x)) ≡ R = ap (drop (n + 1 - place)) back ∙ drop_at (B ++ x ∷ []) R (n + 1 - place) lbx in
+    let lb' : length B ≡ n + 1 - place - 1 = omega arith in
+    let turned : part ≡ x ∷ B =
+    e ∙ ap (λ l. drop (n + 1 - place - 1) l ++ take (n + 1 - place - 1) l) mid
+    ∙ ap (λ l. l ++ take (n + 1 - place - 1) (B ++ x ∷ [])) (drop_at B (x ∷ []) (n + 1 - place - 1) lb')
+    ∙ ap (λ l. x ∷ l) (take_at B (x ∷ []) (n + 1 - place - 1) lb') in
+    let next : R ≡ drop (n + 1) xs = ap (λ k. drop k xs) (sym (add-one n)) in
+    ap (λ l. l ++ (part ++ drop (n + 1 - place) (drop place (set xs n x)))) front
+    ∙ ap (λ l. A ++ (l ++ drop (n + 1 - place) (drop place (set xs n x)))) turned
+    ∙ ap (λ l. A ++ ((x ∷ B) ++ l)) (end ∙ next)
+    ∙ sym (append_assoc A (x ∷ B) (drop (n + 1) xs))

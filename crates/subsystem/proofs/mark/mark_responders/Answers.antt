@@ -1,7 +1,6 @@
-use Rattle.std.proofs.Common.{◌≡◌, ◌*◌, ◌<◌, map, length, get_or, drop, set, bit_or, sym, ap, ◌∙◌, ap₂, arith}
+use Rattle.std.proofs.Common.{◌≡◌, ◌*◌, ◌<◌, map, length, get_or, drop, set, sym, ap, ◌∙◌, ap₂, arith}
 use Rattle.std.proofs.lemmas.List.{length-map, map-set, drop-set-lt, get_or-map}
 use Rattle.model.specs.Calls.{at_place}
-use Rattle.health.specs.Words.{without}
 use Rattle.health.specs.Rows.{row_of, clear_row, gaining}
 use Rattle.subsystem.specs.Responders.{responder_of}
 use Rattle.subsystem.specs.States.{responders_with_rows}
@@ -28,9 +27,8 @@ loop-r-preserved c =
     let there : r < length c.loop-r.responders = omega arith in
     let read_row : row_of row ≡ get_or ws k clear_row = sym (get_or-map row_of c.loop-r.rows k _ clear_row within) in
     let read_responder : responder_of x ≡ get_or hs r (responder_of x) = sym (get_or-map responder_of c.loop-r.responders r _ (responder_of x) there) in
-    let rises : c.union-responder.result.bits ≡ bit_or x.composite.bits (without gained row.changed.bits) = c.union-responder.ensures ∙ ap (bit_or x.composite.bits) c.difference.ensures in
     let new_responders = map-set responder_of c.loop-r.responders r _
-    ∙ ap (set hs r) ((λ i. record { kind = x.kind; composite = rises i }) ∙ ap₂ (raised gained) read_row read_responder) in
+    ∙ ap (set hs r) (c.raise.ensures ∙ ap₂ (raised gained) read_row read_responder) in
     let new_rows = map-set row_of c.loop-r.rows k c.with.result ∙ ap (set ws k) (c.with.ensures ∙ ap (gaining gained events) read_row) in (
       ap₂ (responders_with_rows n) new_responders new_rows
           ∙ responder_marked n place gained events p hs ws r k (responder_of x) c.index.ensures (simp length-map there)

@@ -29,6 +29,6 @@ returns-in_err-check_length-2 c =
 
 pub returns : goal.returns
 returns c =
-    c.in_ok-check_space.ensures
+    c.check_reply.ensures
     ∙ last_test c.args.self.now _ _ (placed _ _ _ _ c.in_ok-r.ensures.refused_if_absent) c.args.lengths c.args.lent c.in_ok-r.ensures.in_use _ c.deref.ensures.0 c.index-deref-r.result c.if-deref-r.false
     (passed _ _ _ tt c.in_ok-check_length.ensures).0 (passed _ _ _ tt c.in_ok-check_length-2.ensures).0
