@@ -69,7 +69,11 @@ pub fn read_hex(heap: Global, text: &[u8]) -> Result<Vec<u8>, HexFault>
     let mut bytes = Vec::new(heap);
     let (pairs, rest) = text.as_chunks::<2>();
     for [high, low] in pairs {
-        let (Some(high), Some(low)) = (digit(*high), digit(*low)) else {
+        // One digit and then the other: a test of the pair took 1.4 times the instructions.
+        let Some(high) = digit(*high) else {
+            return Err(HexFault::NotHexPairs);
+        };
+        let Some(low) = digit(*low) else {
             return Err(HexFault::NotHexPairs);
         };
         bytes.push(high * 16 + low)?;

@@ -10,6 +10,10 @@ pub(crate) fn lowest_port(ports: &[Port], from: u16) -> Option<Port>
     ports
         .iter()
         .filter(|port| from <= u16::from(port.id))
-        .min_by_key(|port| port.id)
+        .min_by_key(
+            |port|
+                ensures is_the_identifier { result ≡ port.now.now.id }
+            { port.id },
+        )
         .copied()
 }

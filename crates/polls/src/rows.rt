@@ -10,7 +10,7 @@ fn clear_row(row: &mut Row)
     *row = Row::clear();
 }
 
-// Clears every row. No `fill`: with it no must-fail edit leaves each row's events, and with this one does, in `clear_row`.
+// Clears every row. No `fill`: no must-fail edit of it lets each row keep its own events, and one of `clear_row` does.
 pub fn clear_rows(rows: &mut [Row])
     ensures { map row_of rows.new ≡ replicate (length rows.old) clear_row }
 {

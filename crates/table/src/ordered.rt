@@ -44,7 +44,7 @@ fn locate<T: Numbered>(records: &[T], number: T::Number) -> Result<usize, usize>
 }
 
 // Puts a record at a place among the first `len` slots, and moves those behind it up by one.
-// No `copy_within`: it moves one record at a time, and took four times as long for 2,048 records.
+// No `copy_within`: it moves one record at a time, and took 3.5 times as long for 2,048 records.
 fn insert_at<T: Copy>(slots: &mut [T], place: usize, len: usize, item: T)
     requires inside { place ≤ len }
     requires room { len < length slots.old }
